@@ -1,6 +1,5 @@
-# The commands of the READMEs for a clone, in a clean Debian 12 with these packages, without a network and the toolchain of
-# Rattle: for each binding cargo builds the library, by the oldest rustc that does. Debian 12 has a later one, too.
-# Needs: python3 make gcc libc6-dev pkg-config cargo-web/bookworm rustc-web/bookworm sqlite3 libsqlite3-dev python3-dev python3-pip python3-setuptools python3-venv python3-wheel postgresql-15 postgresql-server-dev-15
+# The commands of the READMEs for a clone, in a clean Debian 12 with the packages of tools/byte_unit_dev/products.py,
+# without a network and the toolchain of Rattle: for each binding cargo builds the library.
 set -eu
 cd "$HOME/clone"
 echo "[workspace]" > ../Cargo.toml # a clone may be below one

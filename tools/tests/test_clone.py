@@ -7,6 +7,7 @@ import subprocess
 
 from byte_unit_dev import debian
 from byte_unit_dev.fixtures import call, compiled, need, output, path, read
+from byte_unit_dev.products import CLONE_PACKAGES
 
 ENTER = 'mount -t proc none "$0/proc"; mount --rbind /dev "$0/dev"; exec unshare --net chroot "$0" sh -c "$1"'
 # The first x86-64 processors, without the instructions of later ones.
@@ -18,7 +19,7 @@ def test_clone(tmp_path):
     need("mmdebstrap", "unshare", "apt-get", "git")
     script, root = read("tools/tests/clone.sh"), tmp_path / "root"
     try:
-        debian.make(root, re.search(r"^# Needs: (.*)$", script, re.M)[1].split(), debian.CLEAN)
+        debian.make(root, CLONE_PACKAGES, debian.CLEAN)
         output("sh", "-c", 'git archive --prefix=clone/ HEAD | tar -x -C "$0"', root / "root", cwd=path())
         got = call(*debian.ALONE, "sh", "-euc", ENTER, root, script, env=debian.HERE, stdin=subprocess.DEVNULL)
         assert got.returncode == 0, got.stdout

@@ -3,7 +3,7 @@
     words     README.md and all pages together keep their limits of words; a page has one date at most; links lead to a
               file and a heading
     names     the names in backticks exist: identifiers, paths, files and modules
-    facts     two pages that list the calls that may be out of memory, the statuses or the toolchain agree
+    facts     two pages that list the calls that may be out of memory, the statuses, the toolchain or the products agree
     version   each place that says the version says that of the file VERSION
     readme    the commands of README.md print what is below them; its promise, literal and program are as their sources
     guide     docs/GUIDE.md lists each example; its format strings and sizes of programs are those of rows

@@ -8,6 +8,7 @@ from collections import namedtuple
 from pathlib import Path
 
 from ..common import Failure, files, path, read
+from ..products import PRODUCTS
 
 PAGE = re.compile(r"(docs/.*|(.*/)?README|[^/]*)\.md")
 # The words that all pages, and README.md, have at most.
@@ -38,6 +39,7 @@ VERSIONS = [
     ("bindings/js/package.json", '"version": "{version}"'),
     ("bindings/sql/postgresql/byte_unit.control", "default_version = '{version}'\n"),
     ("bindings/sql/postgresql/Makefile", "DATA = byte_unit--{version}.sql\n"),
+    ("bindings/programs/Cargo.toml", '"byte-unit-programs"\nversion = "{version}"\n'),
     ("bindings/rust/Cargo.toml", '\nversion = "5.2.6"\n'),
     ("bindings/rust/Cargo.toml", '\nlibrary-version = "{version}"\n'),
 ]
@@ -150,7 +152,7 @@ def names():
 
 
 def facts():
-    """Compares what two places say: the calls that may be out of memory, the statuses of `byte-unit`, the toolchain."""
+    """Compares what two places say: calls that may be out of memory, statuses of `byte-unit`, toolchain, products."""
     calling, proved, wrong = "CALLING.md", "docs/PROVED.md", []
     calls = set(re.findall(r"^fn (?:\w+::)?(\w+).*AllocError>$", pages()[calling], re.M))
     for name, start, end in (calling, "| allocation |", "\n"), (proved, "### When out of memory", "\n## "):
@@ -161,8 +163,12 @@ def facts():
     found = {name: list(dict.fromkeys(re.findall(form, read(name), re.M))) for name, form in forms.items()}
     wrong += [f"the statuses differ: {found}"] * (len(set(map(tuple, found.values()))) > 1)
     said = {name: re.findall(r"`(\S+ logic \w+)`", pages()[name]) for name in ("README.md", proved)}
+    listed = re.findall(r"^\| \[(.*?)\]\((.*)/README\.md\) \|", pages()["README.md"], re.M)
+    wanted = [(name, folder) for name, (folder, *_) in PRODUCTS.items()]
+    wrong += [f"README.md: its products are {listed}, not {wanted}"] * (listed != wanted)
     wrong += [f"the toolchains differ: {said}"] * (len({one for many in said.values() for one in many}) != 1)
-    return wrong, f"{len(calls)} calls, {len(found['command/README.md'])} statuses and the toolchain are said alike"
+    statuses = len(found["command/README.md"])
+    return wrong, f"{len(calls)} calls, {statuses} statuses, {len(listed)} products and the toolchain are said alike"
 
 
 def version():

@@ -5,6 +5,7 @@ import re
 from .. import tests, verbs
 from ..common import Failure, files, read, reason
 from ..pages.examples import Example, imports_of
+from ..products import PARTS
 from ..source import SHOWN, beside, line_of, source, use_line
 
 # The files of laws, and the crate whose laws are those of bytes once more.
@@ -93,10 +94,10 @@ def guide(page="docs/GUIDE.md"):
 
 
 def tools(page="CONTRIBUTING.md"):
-    """The commands, with the first sentence of each, and the parts that its docstring lists, or PARTS of the tests."""
+    """The commands, with the first sentence of each, and the parts that its docstring lists, or those of the tests."""
     rows = ["Command | What it does", "---|---"]
     for verb in verbs.VERBS:
         module = verbs.module_of(verb)
-        parts = ", ".join(f"`{part}`" for part in (tests.PARTS if module is tests else PART.findall(module.__doc__)))
+        parts = ", ".join(f"`{part}`" for part in (PARTS if module is tests else PART.findall(module.__doc__)))
         rows.append(f"`tools/dev {verb}` | {verbs.summary_of(module)}" + f" ({parts})" * bool(parts))
     yield page, with_parts(page, section("Tools", "\n".join(["<!-- tools: rendered -->", "", *rows])))
