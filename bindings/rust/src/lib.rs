@@ -53,7 +53,6 @@ extern crate std;
 
 mod decimal;
 mod errors;
-mod many;
 // The rendered sources, and what they need, are for the packages of this repository alone: their functions may have
 // preconditions, which rustc does not check.
 #[cfg(not(feature = "internal"))]
@@ -72,6 +71,9 @@ mod support;
 #[doc(hidden)]
 pub mod support;
 mod text;
+
+// Last, as its methods then are in the documentation, which has them in the order of the modules.
+mod many;
 
 pub use core::num::TryFromIntError;
 
