@@ -4,7 +4,7 @@ import re
 
 import pytest
 from byte_unit_dev.fixtures import call, compiled, need, path, read
-from byte_unit_dev.libraries import exported, functions, link_shared, replace_calls
+from byte_unit_dev.libraries import exported, link_shared, replace_calls
 
 HEADER = "bindings/c/byte_unit.h"
 ROUNDS = 2_000_000
@@ -51,9 +51,6 @@ def test_same_answers(compare, library, library_of_rustc):
 @pytest.mark.parametrize("name", WRONG)
 def test_difference_is_seen(compare, library, tmp_path, name):
     need("gcc", "ar", "objcopy")
-    result, given, _ = functions(read(HEADER))[name]
-    head = f"{result} real_{name}({given});\n#define real real_{name}\n{result} {name}({given})\n"
-    (tmp_path / "wrong.c").write_text(f'#include "byte_unit.h"\n{head}{{\n{WRONG[name]}\n}}\n')
-    link_shared(replace_calls(library, tmp_path, [name], tmp_path / "wrong.c"), "gcc")
+    link_shared(replace_calls(library, tmp_path, {name: WRONG[name]}), "gcc")
     got = compare(f"{library}/libbyte_unit.so", f"{tmp_path}/libbyte_unit.so", 100_000)
     assert got.returncode == 1 and re.search(f"^{name}: returned|^signal .* in {name} of library 2", got.stdout, re.M)

@@ -18,7 +18,7 @@ import pytest
 from . import debian
 from .builds import CONFIG, copied, environment, programs
 from .common import ROOT, call, copy_to, output, path, read, write
-from .libraries import HEADER, exported, replace_calls
+from .libraries import HEADER, functions, replace_calls
 from .model.exact import form, output_for, size_of, some_line
 from .needs import CARGO_PROGRAMS, DEBIAN_PYTHON, PACKAGES, PYTHON_PACKAGE, SERDE, is_there
 
@@ -153,8 +153,13 @@ def library_of_rustc(cargo, tmp_path_factory):
 def counting_library(library, tmp_path_factory):
     """A folder with the library, of which each call that parses writes a line to standard error for each text."""
     need("gcc", "ar", "objcopy")
-    parse = [name for name in exported(read(f"{library}/{HEADER}")) if re.search("_parse|_explain|_position", name)]
-    return replace_calls(library, tmp_path_factory.mktemp("counting"), parse, path("bindings/c/checks/counted.c"))
+    bodies = {}
+    for name, (_, given, is_inline) in functions(read(f"{library}/{HEADER}")).items():
+        if not is_inline and re.search("_parse|_explain|_position", name):
+            texts, passed = "codes_len" if "codes_len" in given else "1", re.findall(r"(\w+)(?:,|$)", given)
+            count = f'for (size_t i = 0; i < {texts}; i++) fputs("a text is parsed\\n", stderr);'
+            bodies[name] = f"{count}\nreturn real({', '.join(passed)});"
+    return replace_calls(library, tmp_path_factory.mktemp("counting"), bodies)
 
 
 def parsed(said):

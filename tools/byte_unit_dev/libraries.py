@@ -199,12 +199,18 @@ def exported(header):
     return [name for name, (_, _, is_inline) in functions(header).items() if not is_inline]
 
 
-def replace_calls(library, folder, names, source):
-    """Makes a library in a folder, of which a source has these calls; there those of a given library are `real_NAME`.
+def replace_calls(library, folder, bodies):
+    """Makes a library in a folder of which calls have other bodies than in a given library, whose own is `real` there.
     Returns the folder."""
+    calls, code = functions(read(f"{library}/{HEADER}")), f'#include "{HEADER}"\n#include <stdio.h>\n'
+    for name, body in bodies.items():
+        result, given, _ = calls[name]
+        code += f"{result} real_{name}({given});\n#undef real\n#define real real_{name}\n"
+        code += f"{result} {name}({given})\n{{\n{body}\n}}\n"
+    write(folder / "calls.c", code)
     shutil.copy(Path(library, HEADER), folder)
-    output("gcc", "-O1", "-fPIC", "-Wall", "-Wextra", "-Werror", "-I", folder, "-c", source, "-o", folder / "calls.o")
-    renamed = [f"--redefine-sym={name}=real_{name}" for name in names]
+    output("gcc", "-O1", "-fPIC", "-I", folder, "-c", folder / "calls.c", "-o", folder / "calls.o")
+    renamed = [f"--redefine-sym={name}=real_{name}" for name in bodies]
     output("objcopy", *renamed, Path(library, ARCHIVE), folder / ARCHIVE)
     output("ar", "q", folder / ARCHIVE, folder / "calls.o")
     return folder

@@ -17,6 +17,11 @@ typedef unsigned __int128 uint128_value;
 StaticAssertDecl(sizeof(ByteSize) == 16, "INTERNALLENGTH of bytesize is 16");
 StaticAssertDecl(_Alignof(ByteSize) <= 8, "ALIGNMENT of bytesize is that of a double");
 
+/* Declares a function of SQL, and begins its definition. */
+#define FUNCTION(name)         \
+    PG_FUNCTION_INFO_V1(name); \
+    Datum name(PG_FUNCTION_ARGS)
+
 static inline uint128_value value_of(ByteSize size)
 {
     return ((uint128_value)size.high << 64) | size.low;

@@ -29,8 +29,7 @@ static Mean *state_of(FunctionCallInfo fcinfo)
     return PG_ARGISNULL(0) ? MemoryContextAllocZero(context, sizeof(Mean)) : (Mean *)PG_GETARG_POINTER(0);
 }
 
-PG_FUNCTION_INFO_V1(bytesize_avg_add);
-Datum bytesize_avg_add(PG_FUNCTION_ARGS)
+FUNCTION(bytesize_avg_add)
 {
     Mean *mean = state_of(fcinfo);
 
@@ -39,8 +38,7 @@ Datum bytesize_avg_add(PG_FUNCTION_ARGS)
     PG_RETURN_POINTER(mean);
 }
 
-PG_FUNCTION_INFO_V1(bytesize_avg_combine);
-Datum bytesize_avg_combine(PG_FUNCTION_ARGS)
+FUNCTION(bytesize_avg_combine)
 {
     Mean *mean = state_of(fcinfo);
 
@@ -49,8 +47,7 @@ Datum bytesize_avg_combine(PG_FUNCTION_ARGS)
     PG_RETURN_POINTER(mean);
 }
 
-PG_FUNCTION_INFO_V1(bytesize_avg_serialize);
-Datum bytesize_avg_serialize(PG_FUNCTION_ARGS)
+FUNCTION(bytesize_avg_serialize)
 {
     const Mean *mean = (const Mean *)PG_GETARG_POINTER(0);
     StringInfoData message;
@@ -63,8 +60,7 @@ Datum bytesize_avg_serialize(PG_FUNCTION_ARGS)
     PG_RETURN_BYTEA_P(pq_endtypsend(&message));
 }
 
-PG_FUNCTION_INFO_V1(bytesize_avg_deserialize);
-Datum bytesize_avg_deserialize(PG_FUNCTION_ARGS)
+FUNCTION(bytesize_avg_deserialize)
 {
     bytea *bytes = PG_GETARG_BYTEA_PP(0);
     Mean *mean = palloc(sizeof *mean);
@@ -84,8 +80,7 @@ Datum bytesize_avg_deserialize(PG_FUNCTION_ARGS)
 
 /* Each size is less than 2^100, so the carry is less than the count, and each step of the long division by it has a
  * quotient of 64 bits. */
-PG_FUNCTION_INFO_V1(bytesize_avg);
-Datum bytesize_avg(PG_FUNCTION_ARGS)
+FUNCTION(bytesize_avg)
 {
     const Mean *mean = PG_ARGISNULL(0) ? NULL : (const Mean *)PG_GETARG_POINTER(0);
     uint128_value high, low;

@@ -5,8 +5,7 @@
 #include "utils/builtins.h"
 #include "utils/numeric.h"
 
-PG_FUNCTION_INFO_V1(bytesize_from_int8);
-Datum bytesize_from_int8(PG_FUNCTION_ARGS)
+FUNCTION(bytesize_from_int8)
 {
     int64 n = PG_GETARG_INT64(0);
 
@@ -15,14 +14,12 @@ Datum bytesize_from_int8(PG_FUNCTION_ARGS)
     return result_of(size_of((uint128_value)n));
 }
 
-PG_FUNCTION_INFO_V1(bytesize_from_int4);
-Datum bytesize_from_int4(PG_FUNCTION_ARGS)
+FUNCTION(bytesize_from_int4)
 {
     return DirectFunctionCall1(bytesize_from_int8, Int64GetDatum(PG_GETARG_INT32(0)));
 }
 
-PG_FUNCTION_INFO_V1(bytesize_from_int2);
-Datum bytesize_from_int2(PG_FUNCTION_ARGS)
+FUNCTION(bytesize_from_int2)
 {
     return DirectFunctionCall1(bytesize_from_int8, Int64GetDatum(PG_GETARG_INT16(0)));
 }
@@ -37,14 +34,12 @@ static int64 integer_argument(FunctionCallInfo fcinfo, uint64 greatest, const ch
     return (int64)size.low;
 }
 
-PG_FUNCTION_INFO_V1(bytesize_to_int8);
-Datum bytesize_to_int8(PG_FUNCTION_ARGS)
+FUNCTION(bytesize_to_int8)
 {
     PG_RETURN_INT64(integer_argument(fcinfo, PG_INT64_MAX, "bigint"));
 }
 
-PG_FUNCTION_INFO_V1(bytesize_to_int4);
-Datum bytesize_to_int4(PG_FUNCTION_ARGS)
+FUNCTION(bytesize_to_int4)
 {
     PG_RETURN_INT32((int32)integer_argument(fcinfo, PG_INT32_MAX, "integer"));
 }
@@ -74,22 +69,19 @@ static Datum to_numeric(ByteSize size)
                                Int32GetDatum(-1));
 }
 
-PG_FUNCTION_INFO_V1(bytesize_from_numeric);
-Datum bytesize_from_numeric(PG_FUNCTION_ARGS)
+FUNCTION(bytesize_from_numeric)
 {
     return from_numeric(PG_GETARG_DATUM(0));
 }
 
-PG_FUNCTION_INFO_V1(bytesize_to_numeric);
-Datum bytesize_to_numeric(PG_FUNCTION_ARGS)
+FUNCTION(bytesize_to_numeric)
 {
     return to_numeric(argument(fcinfo, 0));
 }
 
 /* Also the transition and the combination of sum(bytesize), where the first argument is the state, changed in place:
  * sizes are not negative, so a sum is out of range in every order or in none. */
-PG_FUNCTION_INFO_V1(bytesize_add);
-Datum bytesize_add(PG_FUNCTION_ARGS)
+FUNCTION(bytesize_add)
 {
     uint128_value sum = value_of(argument(fcinfo, 0)) + value_of(argument(fcinfo, 1));
 
@@ -99,8 +91,7 @@ Datum bytesize_add(PG_FUNCTION_ARGS)
     return PG_GETARG_DATUM(0);
 }
 
-PG_FUNCTION_INFO_V1(bytesize_subtract);
-Datum bytesize_subtract(PG_FUNCTION_ARGS)
+FUNCTION(bytesize_subtract)
 {
     ByteSize a = argument(fcinfo, 0), b = argument(fcinfo, 1);
 
@@ -109,26 +100,22 @@ Datum bytesize_subtract(PG_FUNCTION_ARGS)
     return result_of(size_of(value_of(a) - value_of(b)));
 }
 
-PG_FUNCTION_INFO_V1(bytesize_times_numeric);
-Datum bytesize_times_numeric(PG_FUNCTION_ARGS)
+FUNCTION(bytesize_times_numeric)
 {
     return from_numeric(DirectFunctionCall2(numeric_mul, to_numeric(argument(fcinfo, 0)), PG_GETARG_DATUM(1)));
 }
 
-PG_FUNCTION_INFO_V1(numeric_times_bytesize);
-Datum numeric_times_bytesize(PG_FUNCTION_ARGS)
+FUNCTION(numeric_times_bytesize)
 {
     return from_numeric(DirectFunctionCall2(numeric_mul, PG_GETARG_DATUM(0), to_numeric(argument(fcinfo, 1))));
 }
 
-PG_FUNCTION_INFO_V1(bytesize_by_numeric);
-Datum bytesize_by_numeric(PG_FUNCTION_ARGS)
+FUNCTION(bytesize_by_numeric)
 {
     return from_numeric(DirectFunctionCall2(numeric_div_trunc, to_numeric(argument(fcinfo, 0)), PG_GETARG_DATUM(1)));
 }
 
-PG_FUNCTION_INFO_V1(bytesize_by_bytesize);
-Datum bytesize_by_bytesize(PG_FUNCTION_ARGS)
+FUNCTION(bytesize_by_bytesize)
 {
     return DirectFunctionCall2(numeric_div, to_numeric(argument(fcinfo, 0)), to_numeric(argument(fcinfo, 1)));
 }

@@ -5,11 +5,9 @@
 #include "utils/sortsupport.h"
 
 /* Defines the function of an operator of SQL: the same operator of C compares what `compare` returns with 0. */
-#define COMPARISON(name, operator)                                            \
-    PG_FUNCTION_INFO_V1(name);                                                \
-                                                                              \
-    Datum name(PG_FUNCTION_ARGS)                                              \
-    {                                                                         \
+#define COMPARISON(name, operator)                                                    \
+    FUNCTION(name)                                                                    \
+    {                                                                                 \
         PG_RETURN_BOOL(compare(argument(fcinfo, 0), argument(fcinfo, 1)) operator 0); \
     }
 
@@ -20,33 +18,28 @@ COMPARISON(bytesize_le, <=)
 COMPARISON(bytesize_gt, >)
 COMPARISON(bytesize_ge, >=)
 
-PG_FUNCTION_INFO_V1(bytesize_cmp);
-Datum bytesize_cmp(PG_FUNCTION_ARGS)
+FUNCTION(bytesize_cmp)
 {
     PG_RETURN_INT32(compare(argument(fcinfo, 0), argument(fcinfo, 1)));
 }
 
-PG_FUNCTION_INFO_V1(bytesize_smaller);
-Datum bytesize_smaller(PG_FUNCTION_ARGS)
+FUNCTION(bytesize_smaller)
 {
     return PG_GETARG_DATUM(compare(argument(fcinfo, 0), argument(fcinfo, 1)) <= 0 ? 0 : 1);
 }
 
-PG_FUNCTION_INFO_V1(bytesize_larger);
-Datum bytesize_larger(PG_FUNCTION_ARGS)
+FUNCTION(bytesize_larger)
 {
     return PG_GETARG_DATUM(compare(argument(fcinfo, 0), argument(fcinfo, 1)) >= 0 ? 0 : 1);
 }
 
 /* Hashes the 16 bytes of a size: equal sizes have the same. */
-PG_FUNCTION_INFO_V1(bytesize_hash);
-Datum bytesize_hash(PG_FUNCTION_ARGS)
+FUNCTION(bytesize_hash)
 {
     return hash_any((const unsigned char *)PG_GETARG_POINTER(0), sizeof(ByteSize));
 }
 
-PG_FUNCTION_INFO_V1(bytesize_hash_extended);
-Datum bytesize_hash_extended(PG_FUNCTION_ARGS)
+FUNCTION(bytesize_hash_extended)
 {
     return hash_any_extended((const unsigned char *)PG_GETARG_POINTER(0), sizeof(ByteSize), PG_GETARG_INT64(1));
 }
@@ -81,8 +74,7 @@ static bool never_abort(int count, SortSupport unused)
 }
 
 /* Sorts by abbreviations, which need no pointer, and by the sizes themselves where two abbreviations are equal. */
-PG_FUNCTION_INFO_V1(bytesize_sortsupport);
-Datum bytesize_sortsupport(PG_FUNCTION_ARGS)
+FUNCTION(bytesize_sortsupport)
 {
     SortSupport sort = (SortSupport)PG_GETARG_POINTER(0);
 

@@ -42,8 +42,7 @@ static Datum parsed(Text text, uint32 flags, fmNodePtr soft)
 
 /* ---- Input and output. ---- */
 
-PG_FUNCTION_INFO_V1(bytesize_in);
-Datum bytesize_in(PG_FUNCTION_ARGS)
+FUNCTION(bytesize_in)
 {
     const char *text = PG_GETARG_CSTRING(0);
 
@@ -100,8 +99,7 @@ char *bytesize_digits(ByteSize size)
     return written(&form, &len);
 }
 
-PG_FUNCTION_INFO_V1(bytesize_out);
-Datum bytesize_out(PG_FUNCTION_ARGS)
+FUNCTION(bytesize_out)
 {
     Form form = form_of(argument(fcinfo, 0), true);
     size_t len;
@@ -110,8 +108,7 @@ Datum bytesize_out(PG_FUNCTION_ARGS)
 }
 
 /* The binary form: two integers of 64 bits, the high one first. */
-PG_FUNCTION_INFO_V1(bytesize_recv);
-Datum bytesize_recv(PG_FUNCTION_ARGS)
+FUNCTION(bytesize_recv)
 {
     StringInfo message = (StringInfo)PG_GETARG_POINTER(0);
     uint128_value high = (uint64)pq_getmsgint64(message);
@@ -119,8 +116,7 @@ Datum bytesize_recv(PG_FUNCTION_ARGS)
     return result_in_range((high << 64) | (uint64)pq_getmsgint64(message));
 }
 
-PG_FUNCTION_INFO_V1(bytesize_send);
-Datum bytesize_send(PG_FUNCTION_ARGS)
+FUNCTION(bytesize_send)
 {
     ByteSize size = argument(fcinfo, 0);
     StringInfoData message;
@@ -158,8 +154,7 @@ static uint32 flags_argument(FunctionCallInfo fcinfo, int n, uint32 allowed)
 /* The flags of the functions that parse a size. */
 static const uint32 READING = BYTE_UNIT_IGNORE_CASE | BYTE_UNIT_BINARY_PREFIXES;
 
-PG_FUNCTION_INFO_V1(size_parse);
-Datum size_parse(PG_FUNCTION_ARGS)
+FUNCTION(size_parse)
 {
     uint32 flags = flags_argument(fcinfo, 1, READING);
 
@@ -168,8 +163,7 @@ Datum size_parse(PG_FUNCTION_ARGS)
     return parsed(text_argument(fcinfo, 0), flags, NULL);
 }
 
-PG_FUNCTION_INFO_V1(size_try);
-Datum size_try(PG_FUNCTION_ARGS)
+FUNCTION(size_try)
 {
     uint32 flags = flags_argument(fcinfo, 1, READING);
     Text text;
@@ -183,8 +177,7 @@ Datum size_try(PG_FUNCTION_ARGS)
     return result_of(size);
 }
 
-PG_FUNCTION_INFO_V1(size_explain);
-Datum size_explain(PG_FUNCTION_ARGS)
+FUNCTION(size_explain)
 {
     uint32 flags = flags_argument(fcinfo, 1, READING);
     char *reason;
@@ -227,8 +220,7 @@ static void set_precision(FunctionCallInfo fcinfo, int n, Form *form)
     form->spec.precision = (uint32)precision;
 }
 
-PG_FUNCTION_INFO_V1(size_text);
-Datum size_text(PG_FUNCTION_ARGS)
+FUNCTION(size_text)
 {
     Form form = form_of((ByteSize){ 0 }, true);
 
@@ -264,15 +256,13 @@ static Datum in_unit(FunctionCallInfo fcinfo, int precision_at, int flags_at)
 }
 
 /* size_in(size, unit [, precision [, flags]]) */
-PG_FUNCTION_INFO_V1(size_in);
-Datum size_in(PG_FUNCTION_ARGS)
+FUNCTION(size_in)
 {
     return in_unit(fcinfo, 2, 3);
 }
 
 /* size_in(size, unit, flags) */
-PG_FUNCTION_INFO_V1(size_in_with_flags);
-Datum size_in_with_flags(PG_FUNCTION_ARGS)
+FUNCTION(size_in_with_flags)
 {
     return in_unit(fcinfo, PG_NARGS(), 2); /* no argument is the precision */
 }
@@ -292,8 +282,7 @@ static uint32 unit_type_argument(FunctionCallInfo fcinfo, int n)
     return type;
 }
 
-PG_FUNCTION_INFO_V1(size_pretty);
-Datum size_pretty(PG_FUNCTION_ARGS)
+FUNCTION(size_pretty)
 {
     Form form = form_of((ByteSize){ 0 }, false);
 
