@@ -64,17 +64,12 @@ def by_turns(crate):
     if crate == bits.CRATE:
         made = "byte_unit_byte"
         return dict(bits.mutant(*found) for found in [*in_every_run(made).items(), *by_turns(made).items()])
-    name = path("crates", crate, "mutants.edits")
-    before, *edits = re.split("^== ", read(name), flags=re.M) if os.path.exists(name) else [""]
-    found, file = {}, ""
-    for edit in edits:
-        # A line `file:` is of all mutants after it, so the one after a mutant's own lines is of those that follow.
+    name, found, file = path("crates", crate, "mutants.edits"), {}, ""
+    for before, title, text in wrappers.entries(name) if os.path.exists(name) else ():
         file = "".join(FILE.findall(before)) or file
-        title, text = edit.split("\n", 1)
+        if title in found:
+            raise Failure(f"{name}: two mutants have one title")
         found[title] = file + FILE.sub("", text).rstrip("\n")
-        before = edit
-    if len(found) < len(edits):
-        raise Failure(f"{name}: two mutants have one title")
     return found
 
 

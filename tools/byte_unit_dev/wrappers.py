@@ -30,18 +30,22 @@ def fields(text, name):
     return re.findall(rf"^{name}: (.*)$", text, re.M)
 
 
+def entries(name):
+    """Yields the lines before each mutant of a catalogue that are of those that follow, its title, and its own lines."""
+    before, *edits = re.split("^== ", read(name), flags=re.M)
+    for edit in edits:
+        yield before, *edit.split("\n", 1)
+        before = edit  # the lines after a mutant's own are of those that follow
+
+
 def mutants():
     """Yields all mutants, in the order of their catalogues."""
     for folder in folders():
         name, tests, file = f"{folder}/mutants.edits", (), ""
-        # The lines after a mutant's own are of those that follow.
-        before, *edits = re.split("^== ", read(name), flags=re.M)
-        for edit in edits:
+        for before, title, edit in entries(name):
             tests, file = tuple(fields(before, "test")) or tests, (fields(before, "file") or [file])[0]
-            title, pairs, olds = edit.partition("\n")[0], PAIR.findall(edit), len(fields(edit, "old"))
-            place = os.path.normpath(os.path.join(folder, file))
-            yield Mutant(name, title, place, pairs, max(1, olds), tests, fields(edit, "equal"))
-            before = edit
+            pairs, olds, place = PAIR.findall(edit), len(fields(edit, "old")), os.path.join(folder, file)
+            yield Mutant(name, title, os.path.normpath(place), pairs, max(1, olds), tests, fields(edit, "equal"))
 
 
 def edited(mutant, text):

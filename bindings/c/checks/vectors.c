@@ -87,11 +87,14 @@ static void print_character(uint32_t c)
                (int)(0x80 | (c & 63)));
 }
 
-/* Prints an error as the vectors have it: the name of the code, and its details. */
-static void print_error(uint32_t code, const byte_unit_error *error)
+/* Prints an error as the vectors have it: the name of the code, and its details; and its position unless it is the one
+ * that the call for it writes, or 0 if that writes none. */
+static void print_error(uint32_t code, const byte_unit_error *error, const char *text,
+                        bool (*position_of)(const char *, size_t, size_t *))
 {
     static const char *const names[] = {"", "NoValue", "NotNumber", "NumberTooLong", "ExceededBounds", "Unit",
                                         "NotUtf8"};
+    size_t position = 0;
     printf("%s", code < 7 ? names[code] : "InvalidArgument");
     if (code == BYTE_UNIT_NOT_NUMBER || code == BYTE_UNIT_UNIT) {
         printf(" \"");
@@ -104,13 +107,6 @@ static void print_error(uint32_t code, const byte_unit_error *error)
         putchar(' ');
         print_decimal(error->number);
     }
-}
-
-/* Prints the position of an error unless it is the one that its call writes, or 0 if that writes none. */
-static void print_other_position(uint32_t code, const byte_unit_error *error, const char *text,
-                                 bool (*position_of)(const char *, size_t, size_t *))
-{
-    size_t position = 0;
     position_of(text, strlen(text), &position);
     if (code != BYTE_UNIT_NOT_UTF8 && error->position != position)
         printf(" at %zu", error->position);
@@ -142,10 +138,8 @@ static void answer_parse(uint32_t flags, const char *text)
     uint32_t code = byte_unit_parse(text, strlen(text), flags, &size, &error);
     if (code == BYTE_UNIT_OK)
         print_number(size);
-    else {
-        print_error(code, &error);
-        print_other_position(code, &error, text, byte_unit_error_position);
-    }
+    else
+        print_error(code, &error, text, byte_unit_error_position);
 }
 
 /* Answers `unit CASE PREFER TEXT`. */
@@ -156,10 +150,8 @@ static void answer_unit(uint32_t flags, const char *text)
     uint32_t code = byte_unit_parse_unit(text, strlen(text), flags, &unit, &error);
     if (code == BYTE_UNIT_OK)
         print_unit(unit);
-    else {
-        print_error(code, &error);
-        print_other_position(code, &error, text, byte_unit_unit_error_position);
-    }
+    else
+        print_error(code, &error, text, byte_unit_unit_error_position);
 }
 
 /* Answers `position OF TEXT`. */
