@@ -4,30 +4,27 @@ import decimal
 import math
 import random
 import unittest
+from collections.abc import Callable
 from decimal import Decimal
 from enum import IntEnum
 from fractions import Fraction
+from typing import Any
 
 import byte_unit
 from byte_unit import ByteUnitError
 
-SIZE_CALLS = [
-    byte_unit.text,
-    lambda size: byte_unit.adjusted_text(size, "KiB"),
-    byte_unit.approximate_text,
-    byte_unit.appropriate_unit,
-    byte_unit.exact_unit,
-    byte_unit.recoverable_unit,
-]
-DIGIT_CALLS = [
-    lambda number: byte_unit.text(1, width=number),
-    lambda number: byte_unit.text(1, precision=number),
-    lambda number: byte_unit.adjusted_text(1, "KiB", width=number),
-    lambda number: byte_unit.adjusted_text(1, "KiB", precision=number),
-    lambda number: byte_unit.approximate_text(1, width=number),
-    lambda number: byte_unit.approximate_text(1, precision=number),
-    lambda number: byte_unit.recoverable_unit(1, precision=number),
-]
+
+def passing(name: str, option: str) -> Callable[[Any], object]:
+    """Returns what passes a value as an option of a call."""
+    unit = ["KiB"] * (name in ("adjusted_text", "from_unit"))
+    return lambda value: getattr(byte_unit, name)(1, *unit, **{option: value})
+
+
+SIZE_CALLS = [byte_unit.text, lambda size: byte_unit.adjusted_text(size, "KiB"), byte_unit.approximate_text,
+              byte_unit.appropriate_unit, byte_unit.exact_unit, byte_unit.recoverable_unit]  # fmt: skip
+WITH_SPEC = ["text", "adjusted_text", "approximate_text"]
+DIGIT_CALLS = [passing(name, option) for name in WITH_SPEC for option in ("width", "precision")]
+DIGIT_CALLS += [passing("recoverable_unit", "precision")]
 # Names of unit types, numbers that are out of every range, and objects that are no integers.
 TYPES = ["binary", "decimal", "both"]
 FAR = [-1, -(2**31), -(2**32) + 20, -(2**63), -(2**64), -(2**128), -(10**5000), 2**128, 2**128 + 1, 2**192, 10**5000]
@@ -170,14 +167,9 @@ class Ranges(unittest.TestCase):
             self.assertEqual(byte_unit.text(number), byte_unit.text(number.__index__()))
 
     def test_names(self) -> None:
-        calls = [
-            lambda name: byte_unit.text(1, sign=name),
-            lambda name: byte_unit.text(1, align=name),
-            lambda name: byte_unit.adjusted_text(1, name),
-            lambda name: byte_unit.from_unit(1, name),
-            lambda name: byte_unit.appropriate_unit(1, unit_type=name),
-            lambda name: byte_unit.approximate_text(1, unit_type=name),
-        ]
+        calls = [passing("text", "sign"), passing("text", "align"), lambda name: byte_unit.adjusted_text(1, name),
+                 lambda name: byte_unit.from_unit(1, name), passing("appropriate_unit", "unit_type"),
+                 passing("approximate_text", "unit_type")]  # fmt: skip
         for call in calls:
             for name in ("", "+", "PLUS", "kib", "KiB ", "b\0", "\ud800", "left,"):
                 with self.subTest(name=name), self.assertRaises(ByteUnitError):
@@ -191,20 +183,9 @@ class Ranges(unittest.TestCase):
 
     def test_flags(self) -> None:
         """Each flag of each call is `True` or `False`, and nothing that Python takes for one of them."""
-        calls = [
-            lambda flag: byte_unit.text(1, bits=flag),
-            lambda flag: byte_unit.text(1, alternate=flag),
-            lambda flag: byte_unit.adjusted_text(1, "B", bits=flag),
-            lambda flag: byte_unit.adjusted_text(1, "B", alternate=flag),
-            lambda flag: byte_unit.appropriate_unit(1, bits=flag),
-            lambda flag: byte_unit.approximate_text(1, bits=flag),
-            lambda flag: byte_unit.approximate_text(1, alternate=flag),
-            lambda flag: byte_unit.exact_unit(1, bits=flag),
-            lambda flag: byte_unit.exact_unit(1, either_kind=flag),
-            lambda flag: byte_unit.recoverable_unit(1, bits=flag),
-            lambda flag: byte_unit.recoverable_unit(1, either_kind=flag),
-            lambda flag: byte_unit.from_unit(1, "B", bits=flag),
-        ]
+        exact = ["exact_unit", "recoverable_unit"]
+        calls = [passing(name, "bits") for name in (*WITH_SPEC, "appropriate_unit", *exact, "from_unit")]
+        calls += [passing(name, "alternate") for name in WITH_SPEC] + [passing(name, "either_kind") for name in exact]
         for call in calls:
             for flag in (None, 0, 2, 256, "no"):
                 with self.subTest(flag=flag), self.assertRaises(TypeError):
