@@ -5,6 +5,7 @@
  */
 #include "bytesize.h"
 
+#include "../forms.h"
 #include "../words.h"
 #include "libpq/pqformat.h"
 #include "message.h"
@@ -16,8 +17,6 @@ PG_MODULE_MAGIC;
 #ifndef ereturn
 #define ereturn(context, result, ...) ereport(ERROR, __VA_ARGS__)
 #endif
-
-enum { GREATEST_PRECISION = 65535 }; /* of a byte_unit_spec */
 
 /* Returns the SQLSTATE of an error of parsing. */
 static int sqlstate_of(uint32 code)
@@ -49,32 +48,14 @@ FUNCTION(bytesize_in)
     return parsed(text_of(text, strlen(text)), 0, fcinfo->context);
 }
 
-/* What to write: a size in `unit`; in the largest unit of `unit_type` not above it, if that is not NO_UNIT; or, if both
- * are, with the unit that states it exactly. */
-typedef struct Form {
-    ByteSize size;
-    byte_unit_spec spec;
-    uint32 unit, unit_type;
-} Form;
-
-/* Writes a size as the form says, and returns the length of the text. */
-static size_t write_form(const Form *form, char *out, size_t out_len)
+/* The form of a size as digits, or with the unit that represents it exactly. */
+static struct form form_of(ByteSize size, bool with_unit)
 {
-    if (form->unit_type != BYTE_UNIT_NO_UNIT)
-        return byte_unit_approximate_text(form->size, 0, form->unit_type, form->spec, out, out_len);
-    if (form->unit != BYTE_UNIT_NO_UNIT)
-        return byte_unit_adjusted_text(form->size, 0, form->unit, form->spec, out, out_len);
-    return byte_unit_text(form->size, 0, form->spec, out, out_len);
-}
-
-static Form form_of(ByteSize size, bool with_unit)
-{
-    return (Form){ .size = size, .spec = { .alternate = with_unit }, .unit = BYTE_UNIT_NO_UNIT,
-                   .unit_type = BYTE_UNIT_NO_UNIT };
+    return (struct form){ .size = size, .spec = { .alternate = with_unit } };
 }
 
 /* Returns the text of a form, zero-terminated, and its length. */
-static char *written(const Form *form, size_t *len)
+static char *written(const struct form *form, size_t *len)
 {
     char buffer[BYTE_UNIT_BUFFER_SIZE];
     char *text;
@@ -93,7 +74,7 @@ static char *written(const Form *form, size_t *len)
 
 char *bytesize_digits(ByteSize size)
 {
-    Form form = form_of(size, false);
+    struct form form = form_of(size, false);
     size_t len;
 
     return written(&form, &len);
@@ -101,7 +82,7 @@ char *bytesize_digits(ByteSize size)
 
 FUNCTION(bytesize_out)
 {
-    Form form = form_of(argument(fcinfo, 0), true);
+    struct form form = form_of(argument(fcinfo, 0), true);
     size_t len;
 
     PG_RETURN_CSTRING(written(&form, &len));
@@ -191,7 +172,7 @@ FUNCTION(size_explain)
 }
 
 /* Returns the text of the first argument in a form, or NULL if that is NULL. */
-static Datum text_result(FunctionCallInfo fcinfo, Form form)
+static Datum text_result(FunctionCallInfo fcinfo, struct form form)
 {
     size_t len;
     char *text;
@@ -204,7 +185,7 @@ static Datum text_result(FunctionCallInfo fcinfo, Form form)
 }
 
 /* Sets the precision to the n-th argument, if the call has so many. */
-static void set_precision(FunctionCallInfo fcinfo, int n, Form *form)
+static void set_precision(FunctionCallInfo fcinfo, int n, struct form *form)
 {
     int32 precision;
 
@@ -222,7 +203,7 @@ static void set_precision(FunctionCallInfo fcinfo, int n, Form *form)
 
 FUNCTION(size_text)
 {
-    Form form = form_of((ByteSize){ 0 }, true);
+    struct form form = form_of((ByteSize){ 0 }, true);
 
     set_precision(fcinfo, 1, &form);
     return text_result(fcinfo, form);
@@ -246,12 +227,13 @@ static uint32 unit_of(Text name, uint32 flags)
 static Datum in_unit(FunctionCallInfo fcinfo, int precision_at, int flags_at)
 {
     uint32 flags = flags_argument(fcinfo, flags_at, BYTE_UNIT_IGNORE_CASE);
-    Form form = form_of((ByteSize){ 0 }, false);
+    struct form form = form_of((ByteSize){ 0 }, false);
 
     set_precision(fcinfo, precision_at, &form);
     if (PG_ARGISNULL(0) || PG_ARGISNULL(1))
         PG_RETURN_NULL();
-    form.unit = unit_of(text_argument(fcinfo, 1), flags);
+    form.write = byte_unit_adjusted_text;
+    form.unit_or_type = unit_of(text_argument(fcinfo, 1), flags);
     return text_result(fcinfo, form);
 }
 
@@ -284,9 +266,10 @@ static uint32 unit_type_argument(FunctionCallInfo fcinfo, int n)
 
 FUNCTION(size_pretty)
 {
-    Form form = form_of((ByteSize){ 0 }, false);
+    struct form form = form_of((ByteSize){ 0 }, false);
 
-    form.unit_type = unit_type_argument(fcinfo, 1);
+    form.write = byte_unit_approximate_text;
+    form.unit_or_type = unit_type_argument(fcinfo, 1);
     set_precision(fcinfo, 2, &form);
     return text_result(fcinfo, form);
 }

@@ -6,11 +6,11 @@
 #include <sqlite3ext.h>
 SQLITE_EXTENSION_INIT3
 
+#include "../forms.h"
 #include "../words.h"
 
+/* The flags of the functions that take a unit, and of those that parse a size. */
 enum {
-    GREATEST_PRECISION = 65535, /* of a byte_unit_spec */
-    /* The flags of the functions that take a unit, and of those that parse a size. */
     UNIT_FLAGS = BYTE_UNIT_BITS | BYTE_UNIT_IGNORE_CASE,
     SIZE_FLAGS = UNIT_FLAGS | BYTE_UNIT_BINARY_PREFIXES
 };
@@ -19,16 +19,6 @@ enum {
 struct text {
     const char *at;
     size_t len;
-};
-
-/* What is written: a size by the call `write`, in a unit or in one of a type, or by byte_unit_text if that is NULL. */
-struct form {
-    size_t (*write)(byte_unit_number size, uint32_t flags, uint32_t unit_or_type, byte_unit_spec spec, char *out,
-                    size_t out_len);
-    byte_unit_number size;
-    byte_unit_spec spec;
-    uint32_t unit_or_type;
-    uint32_t flags;
 };
 
 /* ---- Messages: each names the value and the reason. ---- */

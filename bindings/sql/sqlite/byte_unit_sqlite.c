@@ -215,16 +215,6 @@ static void sum_value(sqlite3_context *context)
 
 /* ---- From sizes to texts. ---- */
 
-/* Writes a text as the calls of byte_unit.h do. The other flags are for the name of the unit, which is read already. */
-static size_t write_form(const struct form *form, char *out, size_t out_len)
-{
-    uint32_t flags = form->flags & BYTE_UNIT_BITS;
-
-    if (form->write == NULL)
-        return byte_unit_text(form->size, flags, form->spec, out, out_len);
-    return form->write(form->size, flags, form->unit_or_type, form->spec, out, out_len);
-}
-
 /* Returns the text of a form, by a longer buffer if it needs one. */
 static void return_form(sqlite3_context *context, const struct form *form)
 {
