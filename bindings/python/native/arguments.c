@@ -178,15 +178,10 @@ static bool out_of_range(PyObject *module, const range *range, PyObject *integer
     return false;
 }
 
-static bool is_at_most(byte_unit_number number, byte_unit_number most)
-{
-    return number.high < most.high || (number.high == most.high && number.low <= most.low);
-}
-
 /* Reads an int. Raises an error if it is out of range. */
 static bool integer_to_range(PyObject *module, const range *range, PyObject *integer, byte_unit_number *number)
 {
-    bool is_in_range = to_number(integer, number) && is_at_most(*number, range->most);
+    bool is_in_range = to_number(integer, number) && wide(*number) <= wide(range->most);
     return is_in_range || (!PyErr_Occurred() && out_of_range(module, range, integer));
 }
 
@@ -195,7 +190,7 @@ static bool to_range(PyObject *module, const range *range, PyObject *object, byt
 {
     /* UINT64_MAX is what the function returns with an error, too. */
     *number = (byte_unit_number){PyLong_AsUnsignedLongLong(object), 0};
-    if (number->low != UINT64_MAX && is_at_most(*number, range->most)) {
+    if (number->low != UINT64_MAX && wide(*number) <= wide(range->most)) {
         return true; /* most numbers */
     }
     PyErr_Clear();

@@ -3,10 +3,11 @@
 #ifndef DOCS_H
 #define DOCS_H
 
+#define HEAD(signature) signature "\n--\n\n"
+#define OUT_OF_RANGE "Raises `ByteUnitError` if an argument is out of range.\n\n"
+
 #define PARSE_DOC \
-    "parse($module, text, *, bits=False, ignore_case=False, binary=False)\n" \
-    "--\n" \
-    "\n" \
+    HEAD("parse($module, text, *, bits=False, ignore_case=False, binary=False)") \
     "Parses a size: a number and a unit, or a number alone.\n" \
     "\n" \
     "Returns the number of bytes, or of bits with `bits`, rounded up to a whole one. White space at both ends\n" \
@@ -32,9 +33,7 @@
     "expected) (character 4)"
 
 #define EXPLAIN_DOC \
-    "explain($module, text, *, bits=False, ignore_case=False, binary=False)\n" \
-    "--\n" \
-    "\n" \
+    HEAD("explain($module, text, *, bits=False, ignore_case=False, binary=False)") \
     "Returns the reason in the message of the error that `parse` raises, or `None` if the text is a size.\n" \
     "\n" \
     "It ends with the number of the first wrong character, from 1, or with \"(at the end of the text)\", unless\n" \
@@ -46,9 +45,7 @@
     "True"
 
 #define PARSE_UNIT_DOC \
-    "parse_unit($module, text, *, bits=False, ignore_case=False)\n" \
-    "--\n" \
-    "\n" \
+    HEAD("parse_unit($module, text, *, bits=False, ignore_case=False)") \
     "Parses a unit in any of its spellings, and returns its name.\n" \
     "\n" \
     "A spelling without a suffix is of bytes, or of bits with `bits`. With `ignore_case` the suffix `b` means\n" \
@@ -66,9 +63,7 @@
     "expected) (character 2)"
 
 #define EXPLAIN_UNIT_DOC \
-    "explain_unit($module, text, *, bits=False, ignore_case=False)\n" \
-    "--\n" \
-    "\n" \
+    HEAD("explain_unit($module, text, *, bits=False, ignore_case=False)") \
     "Returns the reason in the message of the error that `parse_unit` raises, or `None` if the text is a unit.\n" \
     "\n" \
     "It ends with the number of the first wrong character, from 1, or with \"(at the end of the text)\", unless\n" \
@@ -80,9 +75,7 @@
     "True"
 
 #define TEXT_DOC \
-    "text($module, size, *, bits=False, precision=None, width=None, align=None, sign=None, alternate=True)\n" \
-    "--\n" \
-    "\n" \
+    HEAD("text($module, size, *, bits=False, precision=None, width=None, align=None, sign=None, alternate=True)") \
     "Formats a size in a unit that represents it exactly, or with `alternate=False` in digits alone.\n" \
     "\n" \
     "The unit is the largest of its kind (bytes or bits), not above the size, in which the size is exact with\n" \
@@ -95,8 +88,7 @@
     "unit and the space before it to four columns; `sign=\"minus\"` leaves that space out. A width and a precision\n" \
     "are at most 65535. Numbers are `int`, or what `operator.index` accepts.\n" \
     "\n" \
-    "Raises `ByteUnitError` if an argument is out of range.\n" \
-    "\n" \
+    OUT_OF_RANGE \
     ">>> text(1536), text(1537), text(1500, bits=True)\n" \
     "('1.5 KiB', '1.537 KB', '1.5 Kb')\n" \
     ">>> text(123456, precision=0), text(1536, alternate=False)\n" \
@@ -105,10 +97,8 @@
     "('1.5    KiB', '   1.5 KiB', '1.5KiB')"
 
 #define ADJUSTED_TEXT_DOC \
-    "adjusted_text($module, size, unit, *, bits=False, precision=None, width=None, align=None, " \
-    "sign=None, alternate=False)\n" \
-    "--\n" \
-    "\n" \
+    HEAD("adjusted_text($module, size, unit, *, bits=False, precision=None, width=None, align=None, " \
+         "sign=None, alternate=False)") \
     "Formats a size in a unit, which is one of `UNITS`.\n" \
     "\n" \
     "Without a precision all digits are shown. With one, the number is rounded to exactly `precision` digits\n" \
@@ -116,8 +106,7 @@
     "`alternate=True` it is rounded to at most `precision` digits, 16 at most and none that are zeros at the\n" \
     "end, where ties go up, in `b` and `B` too. The other arguments are those of `text`.\n" \
     "\n" \
-    "Raises `ByteUnitError` if an argument is out of range.\n" \
-    "\n" \
+    OUT_OF_RANGE \
     ">>> adjusted_text(123456, \"KiB\"), adjusted_text(123456, \"KiB\", precision=2)\n" \
     "('120.5625 KiB', '120.56 KiB')\n" \
     ">>> adjusted_text(1280, \"KiB\", precision=1), adjusted_text(1280, \"KiB\", precision=1, alternate=True)\n" \
@@ -129,39 +118,31 @@
     "('0.375 B', '0.4 B')"
 
 #define APPROXIMATE_TEXT_DOC \
-    "approximate_text($module, size, *, bits=False, unit_type='binary', precision=1, width=None, align=None, " \
-    "sign=None, alternate=False)\n" \
-    "--\n" \
-    "\n" \
+    HEAD("approximate_text($module, size, *, bits=False, unit_type='binary', precision=1, width=None, align=None, " \
+         "sign=None, alternate=False)") \
     "Formats a size for people, rounded in the largest unit of its kind and of a type that is not above it.\n" \
     "\n" \
     "The unit is what `appropriate_unit` returns with `unit_type`, \"binary\", \"decimal\" or \"both\", and the\n" \
     "text what `adjusted_text` does in it. The unit is chosen before the number is rounded. With\n" \
     "`precision=None` all digits are shown.\n" \
     "\n" \
-    "Raises `ByteUnitError` if an argument is out of range.\n" \
-    "\n" \
+    OUT_OF_RANGE \
     ">>> approximate_text(123456789), approximate_text(123456789, unit_type=\"decimal\", precision=2)\n" \
     "('117.7 MiB', '123.46 MB')\n" \
     ">>> approximate_text(1023), approximate_text(2**20 - 1), approximate_text(1500, bits=True)\n" \
     "('1023 B', '1024.0 KiB', '1.5 Kib')"
 
 #define APPROPRIATE_UNIT_DOC \
-    "appropriate_unit($module, size, *, bits=False, unit_type='binary')\n" \
-    "--\n" \
-    "\n" \
+    HEAD("appropriate_unit($module, size, *, bits=False, unit_type='binary')") \
     "Returns the largest unit of the kind and of the type that is not above the size, or `B` or `b` if there is\n" \
     "none. The type is \"binary\", \"decimal\" or \"both\".\n" \
     "\n" \
-    "Raises `ByteUnitError` if an argument is out of range.\n" \
-    "\n" \
+    OUT_OF_RANGE \
     ">>> appropriate_unit(10000), appropriate_unit(10000, unit_type=\"decimal\"), appropriate_unit(7, bits=True)\n" \
     "('KiB', 'KB', 'b')"
 
 #define EXACT_UNIT_DOC \
-    "exact_unit($module, size, *, bits=False, either_kind=False)\n" \
-    "--\n" \
-    "\n" \
+    HEAD("exact_unit($module, size, *, bits=False, either_kind=False)") \
     "Returns the size as a whole number of the largest unit, not above it, that divides it, and the unit.\n" \
     "\n" \
     "If there is no such unit, it is `B` or `b`. With `either_kind`, units of bytes and of bits are considered.\n" \
@@ -172,24 +153,19 @@
     "((50840, 'KB'), (1001, 'B'))"
 
 #define RECOVERABLE_UNIT_DOC \
-    "recoverable_unit($module, size, *, bits=False, either_kind=False, precision=3)\n" \
-    "--\n" \
-    "\n" \
+    HEAD("recoverable_unit($module, size, *, bits=False, either_kind=False, precision=3)") \
     "Returns the size in the largest unit, not above it, in which it is exact with `precision` digits, and the\n" \
     "unit.\n" \
     "\n" \
     "The digits are those after the decimal point. A precision is at most 65535, and more than 28 counts as 28.\n" \
     "If there is no such unit, it is `B` or `b`. With `either_kind`, units of bytes and of bits are considered.\n" \
     "\n" \
-    "Raises `ByteUnitError` if an argument is out of range.\n" \
-    "\n" \
+    OUT_OF_RANGE \
     ">>> recoverable_unit(50840000, precision=2), recoverable_unit(50840000, precision=1)\n" \
     "((Decimal('50.84'), 'MB'), (Decimal('50840'), 'KB'))"
 
 #define FROM_UNIT_DOC \
-    "from_unit($module, count, unit, *, bits=False)\n" \
-    "--\n" \
-    "\n" \
+    HEAD("from_unit($module, count, unit, *, bits=False)") \
     "Returns the size of a whole number of a unit, rounded up to a whole byte, or bit with `bits`.\n" \
     "\n" \
     "Raises `ByteUnitError` if the size is 10^30 or more, or an argument is out of range.\n" \

@@ -22,6 +22,12 @@
 
 __extension__ typedef unsigned __int128 u128;
 
+/* Returns the number as one integer. */
+static inline u128 wide(byte_unit_number number)
+{
+    return (u128)number.high << 64 | number.low;
+}
+
 /* The code of a text that is null, beside those of the library: that of an invalid argument, which no text has. */
 enum { NULL_TEXT = BYTE_UNIT_INVALID_ARGUMENT };
 

@@ -112,11 +112,6 @@ PyObject *sum(PyObject *module, PyObject *const *args, Py_ssize_t count)
     return high ? with_high(from_wide(low), from_wide(high)) : from_wide(low);
 }
 
-static bool is_less(byte_unit_number number, byte_unit_number than)
-{
-    return number.high < than.high || (number.high == than.high && number.low < than.low);
-}
-
 /* extremum(sizes, codes, is_greatest): the least or the greatest size, or None without any */
 PyObject *extremum(PyObject *module, PyObject *const *args, Py_ssize_t count)
 {
@@ -129,7 +124,7 @@ PyObject *extremum(PyObject *module, PyObject *const *args, Py_ssize_t count)
     }
     for (size_t row = 0; row < view.count; row++) {
         const byte_unit_number *size = &view.sizes[row];
-        if (!view.codes[row] && (!found || (is_greatest ? is_less(*found, *size) : is_less(*size, *found)))) {
+        if (!view.codes[row] && (!found || (is_greatest ? wide(*found) < wide(*size) : wide(*size) < wide(*found)))) {
             found = size;
         }
     }
@@ -188,7 +183,7 @@ PyObject *float64(PyObject *module, PyObject *const *args, Py_ssize_t count)
     double *numbers = result ? (double *)(void *)PyBytes_AsString(result) : NULL;
     for (size_t row = 0; result && row < view.count; row++) {
         byte_unit_number size = view.sizes[row];
-        double number = size.high ? (double)((u128)size.high << 64 | size.low) : (double)size.low;
+        double number = size.high ? (double)wide(size) : (double)size.low;
         numbers[row] = view.codes[row] ? NAN : number;
     }
     return result;

@@ -47,12 +47,6 @@ static int write_fraction(u128 fraction, char *out, size_t len)
     return written;
 }
 
-/* Returns the number as one integer. */
-static u128 wide(byte_unit_number number)
-{
-    return (u128)number.high << 64 | number.low;
-}
-
 /* Returns decimal.Decimal, which is imported at its first use. */
 static PyObject *decimal_class(state *state)
 {

@@ -26,16 +26,15 @@ fn error_of(error: ParseError) -> String {
     }
 }
 
-fn parsed(text: &str, in_bits: bool, ignore_case: bool) -> Result<u128, ParseError> {
-    if in_bits { Bit::parse_str(text).map(Bit::as_u128) } else { Byte::parse_str(text, ignore_case).map(Byte::as_u128) }
-}
-
-fn parsed_binary(text: &str, in_bits: bool, ignore_case: bool) -> Result<u128, ParseError> {
-    if in_bits {
-        Bit::parse_str_binary(text).map(Bit::as_u128)
-    } else {
-        Byte::parse_str_binary(text, ignore_case).map(Byte::as_u128)
-    }
+/// Returns the number of the size that a call of `Bit` or of `Byte` makes; that of `Byte` may have an argument more.
+macro_rules! number_by {
+    ($in_bits:ident, $call:ident($($given:expr),*) $(, $ignore_case:expr)?) => {
+        if $in_bits {
+            Bit::$call($($given),*).map(Bit::as_u128)
+        } else {
+            Byte::$call($($given,)* $($ignore_case)?).map(Byte::as_u128)
+        }
+    };
 }
 
 fn position(of: &str, text: &str) -> Option<usize> {
@@ -140,35 +139,21 @@ fn decimal_of(digits: &str) -> Decimal {
     Decimal::new(whole.parse().unwrap(), format!("{fraction:0<28}").parse().unwrap()).unwrap()
 }
 
-fn made_decimal(number: Decimal, unit: Unit, in_bits: bool) -> Option<u128> {
-    if in_bits {
-        Bit::from_decimal_with_unit(number, unit).map(Bit::as_u128)
-    } else {
-        Byte::from_decimal_with_unit(number, unit).map(Byte::as_u128)
-    }
-}
-
-fn made(number: u128, unit: Unit, in_bits: bool) -> Option<u128> {
-    if in_bits {
-        Bit::from_u128_with_unit(number, unit).map(Bit::as_u128)
-    } else {
-        Byte::from_u128_with_unit(number, unit).map(Byte::as_u128)
-    }
-}
-
 /// Returns the answer to a call, or `-` if the package does not have it.
 fn answer(words: &[&str], text: &str) -> String {
     let in_bits = words.get(1) == Some(&"bit");
     let uncased = words.contains(&"uncased");
     match words[0] {
-        "parse" => parsed(text, in_bits, uncased).map_or_else(error_of, |size| size.to_string()),
+        "parse" => number_by!(in_bits, parse_str(text), uncased).map_or_else(error_of, |size| size.to_string()),
         "unit" => Unit::parse_str(text, uncased, words[2] == "bytes")
             .map_or_else(|error| unit_error(&error), |unit| unit.to_string()),
-        "says" => format!("\"{}\"", parsed(text, in_bits, uncased).unwrap_err()),
-        "parse_binary" => parsed_binary(text, in_bits, uncased).map_or_else(error_of, |size| size.to_string()),
+        "says" => format!("\"{}\"", number_by!(in_bits, parse_str(text), uncased).unwrap_err()),
+        "parse_binary" => {
+            number_by!(in_bits, parse_str_binary(text), uncased).map_or_else(error_of, |size| size.to_string())
+        }
         "position" => or_none(position(words[1], text)),
-        "make_in" => or_none(made(words[2].parse().unwrap(), unit_of(words[3]), in_bits)),
-        "make_decimal" => or_none(made_decimal(decimal_of(words[2]), unit_of(words[3]), in_bits)),
+        "make_in" => or_none(number_by!(in_bits, from_u128_with_unit(words[2].parse().unwrap(), unit_of(words[3])))),
+        "make_decimal" => or_none(number_by!(in_bits, from_decimal_with_unit(decimal_of(words[2]), unit_of(words[3])))),
         "compute" | "as_u64" if in_bits => number_of_size!(Bit, words),
         "compute" | "as_u64" => number_of_size!(Byte, words),
         "text" | "exact" | "recoverable" => {
