@@ -18,7 +18,7 @@ StaticAssertDecl(sizeof(ByteSize) == 16, "INTERNALLENGTH of bytesize is 16");
 StaticAssertDecl(_Alignof(ByteSize) <= 8, "ALIGNMENT of bytesize is that of a double");
 
 /* Declares a function of SQL, and begins its definition. */
-#define FUNCTION(name)         \
+#define SQL_FUNCTION(name)     \
     PG_FUNCTION_INFO_V1(name); \
     Datum name(PG_FUNCTION_ARGS)
 

@@ -29,7 +29,7 @@ static Mean *state_of(FunctionCallInfo fcinfo)
     return PG_ARGISNULL(0) ? MemoryContextAllocZero(context, sizeof(Mean)) : (Mean *)PG_GETARG_POINTER(0);
 }
 
-FUNCTION(bytesize_avg_add)
+SQL_FUNCTION(bytesize_avg_add)
 {
     Mean *mean = state_of(fcinfo);
 
@@ -38,7 +38,7 @@ FUNCTION(bytesize_avg_add)
     PG_RETURN_POINTER(mean);
 }
 
-FUNCTION(bytesize_avg_combine)
+SQL_FUNCTION(bytesize_avg_combine)
 {
     Mean *mean = state_of(fcinfo);
 
@@ -47,7 +47,7 @@ FUNCTION(bytesize_avg_combine)
     PG_RETURN_POINTER(mean);
 }
 
-FUNCTION(bytesize_avg_serialize)
+SQL_FUNCTION(bytesize_avg_serialize)
 {
     const Mean *mean = (const Mean *)PG_GETARG_POINTER(0);
     StringInfoData message;
@@ -60,7 +60,7 @@ FUNCTION(bytesize_avg_serialize)
     PG_RETURN_BYTEA_P(pq_endtypsend(&message));
 }
 
-FUNCTION(bytesize_avg_deserialize)
+SQL_FUNCTION(bytesize_avg_deserialize)
 {
     bytea *bytes = PG_GETARG_BYTEA_PP(0);
     Mean *mean = palloc(sizeof *mean);
@@ -80,7 +80,7 @@ FUNCTION(bytesize_avg_deserialize)
 
 /* Each size is less than 2^100, so the carry is less than the count, and each step of the long division by it has a
  * quotient of 64 bits. */
-FUNCTION(bytesize_avg)
+SQL_FUNCTION(bytesize_avg)
 {
     const Mean *mean = PG_ARGISNULL(0) ? NULL : (const Mean *)PG_GETARG_POINTER(0);
     uint128_value high, low;

@@ -5,7 +5,7 @@
 #include "utils/builtins.h"
 #include "utils/numeric.h"
 
-FUNCTION(bytesize_from_int8)
+SQL_FUNCTION(bytesize_from_int8)
 {
     int64 n = PG_GETARG_INT64(0);
 
@@ -14,12 +14,12 @@ FUNCTION(bytesize_from_int8)
     return result_of(size_of((uint128_value)n));
 }
 
-FUNCTION(bytesize_from_int4)
+SQL_FUNCTION(bytesize_from_int4)
 {
     return DirectFunctionCall1(bytesize_from_int8, Int64GetDatum(PG_GETARG_INT32(0)));
 }
 
-FUNCTION(bytesize_from_int2)
+SQL_FUNCTION(bytesize_from_int2)
 {
     return DirectFunctionCall1(bytesize_from_int8, Int64GetDatum(PG_GETARG_INT16(0)));
 }
@@ -34,12 +34,12 @@ static int64 integer_argument(FunctionCallInfo fcinfo, uint64 greatest, const ch
     return (int64)size.low;
 }
 
-FUNCTION(bytesize_to_int8)
+SQL_FUNCTION(bytesize_to_int8)
 {
     PG_RETURN_INT64(integer_argument(fcinfo, PG_INT64_MAX, "bigint"));
 }
 
-FUNCTION(bytesize_to_int4)
+SQL_FUNCTION(bytesize_to_int4)
 {
     PG_RETURN_INT32((int32)integer_argument(fcinfo, PG_INT32_MAX, "integer"));
 }
@@ -69,19 +69,19 @@ static Datum to_numeric(ByteSize size)
                                Int32GetDatum(-1));
 }
 
-FUNCTION(bytesize_from_numeric)
+SQL_FUNCTION(bytesize_from_numeric)
 {
     return from_numeric(PG_GETARG_DATUM(0));
 }
 
-FUNCTION(bytesize_to_numeric)
+SQL_FUNCTION(bytesize_to_numeric)
 {
     return to_numeric(argument(fcinfo, 0));
 }
 
 /* Also the transition and the combination of sum(bytesize), where the first argument is the state, changed in place:
  * sizes are not negative, so a sum is out of range in every order or in none. */
-FUNCTION(bytesize_add)
+SQL_FUNCTION(bytesize_add)
 {
     uint128_value sum = value_of(argument(fcinfo, 0)) + value_of(argument(fcinfo, 1));
 
@@ -91,7 +91,7 @@ FUNCTION(bytesize_add)
     return PG_GETARG_DATUM(0);
 }
 
-FUNCTION(bytesize_subtract)
+SQL_FUNCTION(bytesize_subtract)
 {
     ByteSize a = argument(fcinfo, 0), b = argument(fcinfo, 1);
 
@@ -100,22 +100,22 @@ FUNCTION(bytesize_subtract)
     return result_of(size_of(value_of(a) - value_of(b)));
 }
 
-FUNCTION(bytesize_times_numeric)
+SQL_FUNCTION(bytesize_times_numeric)
 {
     return from_numeric(DirectFunctionCall2(numeric_mul, to_numeric(argument(fcinfo, 0)), PG_GETARG_DATUM(1)));
 }
 
-FUNCTION(numeric_times_bytesize)
+SQL_FUNCTION(numeric_times_bytesize)
 {
     return from_numeric(DirectFunctionCall2(numeric_mul, PG_GETARG_DATUM(0), to_numeric(argument(fcinfo, 1))));
 }
 
-FUNCTION(bytesize_by_numeric)
+SQL_FUNCTION(bytesize_by_numeric)
 {
     return from_numeric(DirectFunctionCall2(numeric_div_trunc, to_numeric(argument(fcinfo, 0)), PG_GETARG_DATUM(1)));
 }
 
-FUNCTION(bytesize_by_bytesize)
+SQL_FUNCTION(bytesize_by_bytesize)
 {
     return DirectFunctionCall2(numeric_div, to_numeric(argument(fcinfo, 0)), to_numeric(argument(fcinfo, 1)));
 }

@@ -6,7 +6,7 @@
 
 /* Defines the function of an operator of SQL: the same operator of C compares what `compare` returns with 0. */
 #define COMPARISON(name, operator)                                                    \
-    FUNCTION(name)                                                                    \
+    SQL_FUNCTION(name)                                                                \
     {                                                                                 \
         PG_RETURN_BOOL(compare(argument(fcinfo, 0), argument(fcinfo, 1)) operator 0); \
     }
@@ -18,28 +18,28 @@ COMPARISON(bytesize_le, <=)
 COMPARISON(bytesize_gt, >)
 COMPARISON(bytesize_ge, >=)
 
-FUNCTION(bytesize_cmp)
+SQL_FUNCTION(bytesize_cmp)
 {
     PG_RETURN_INT32(compare(argument(fcinfo, 0), argument(fcinfo, 1)));
 }
 
-FUNCTION(bytesize_smaller)
+SQL_FUNCTION(bytesize_smaller)
 {
     return PG_GETARG_DATUM(compare(argument(fcinfo, 0), argument(fcinfo, 1)) <= 0 ? 0 : 1);
 }
 
-FUNCTION(bytesize_larger)
+SQL_FUNCTION(bytesize_larger)
 {
     return PG_GETARG_DATUM(compare(argument(fcinfo, 0), argument(fcinfo, 1)) >= 0 ? 0 : 1);
 }
 
 /* Hashes the 16 bytes of a size: equal sizes have the same. */
-FUNCTION(bytesize_hash)
+SQL_FUNCTION(bytesize_hash)
 {
     return hash_any((const unsigned char *)PG_GETARG_POINTER(0), sizeof(ByteSize));
 }
 
-FUNCTION(bytesize_hash_extended)
+SQL_FUNCTION(bytesize_hash_extended)
 {
     return hash_any_extended((const unsigned char *)PG_GETARG_POINTER(0), sizeof(ByteSize), PG_GETARG_INT64(1));
 }
@@ -74,7 +74,7 @@ static bool never_abort(int count, SortSupport unused)
 }
 
 /* Sorts by abbreviations, which need no pointer, and by the sizes themselves where two abbreviations are equal. */
-FUNCTION(bytesize_sortsupport)
+SQL_FUNCTION(bytesize_sortsupport)
 {
     SortSupport sort = (SortSupport)PG_GETARG_POINTER(0);
 

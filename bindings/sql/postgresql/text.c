@@ -41,7 +41,7 @@ static Datum parsed(Text text, uint32 flags, fmNodePtr soft)
 
 /* ---- Input and output. ---- */
 
-FUNCTION(bytesize_in)
+SQL_FUNCTION(bytesize_in)
 {
     const char *text = PG_GETARG_CSTRING(0);
 
@@ -80,7 +80,7 @@ char *bytesize_digits(ByteSize size)
     return written(&form, &len);
 }
 
-FUNCTION(bytesize_out)
+SQL_FUNCTION(bytesize_out)
 {
     struct form form = form_of(argument(fcinfo, 0), true);
     size_t len;
@@ -89,7 +89,7 @@ FUNCTION(bytesize_out)
 }
 
 /* The binary form: two integers of 64 bits, the high one first. */
-FUNCTION(bytesize_recv)
+SQL_FUNCTION(bytesize_recv)
 {
     StringInfo message = (StringInfo)PG_GETARG_POINTER(0);
     uint128_value high = (uint64)pq_getmsgint64(message);
@@ -97,7 +97,7 @@ FUNCTION(bytesize_recv)
     return result_in_range((high << 64) | (uint64)pq_getmsgint64(message));
 }
 
-FUNCTION(bytesize_send)
+SQL_FUNCTION(bytesize_send)
 {
     ByteSize size = argument(fcinfo, 0);
     StringInfoData message;
@@ -135,7 +135,7 @@ static uint32 flags_argument(FunctionCallInfo fcinfo, int n, uint32 allowed)
 /* The flags of the functions that parse a size. */
 static const uint32 READING = BYTE_UNIT_IGNORE_CASE | BYTE_UNIT_BINARY_PREFIXES;
 
-FUNCTION(size_parse)
+SQL_FUNCTION(size_parse)
 {
     uint32 flags = flags_argument(fcinfo, 1, READING);
 
@@ -144,7 +144,7 @@ FUNCTION(size_parse)
     return parsed(text_argument(fcinfo, 0), flags, NULL);
 }
 
-FUNCTION(size_try)
+SQL_FUNCTION(size_try)
 {
     uint32 flags = flags_argument(fcinfo, 1, READING);
     Text text;
@@ -158,7 +158,7 @@ FUNCTION(size_try)
     return result_of(size);
 }
 
-FUNCTION(size_explain)
+SQL_FUNCTION(size_explain)
 {
     uint32 flags = flags_argument(fcinfo, 1, READING);
     char *reason;
@@ -201,7 +201,7 @@ static void set_precision(FunctionCallInfo fcinfo, int n, struct form *form)
     form->spec.precision = (uint32)precision;
 }
 
-FUNCTION(size_text)
+SQL_FUNCTION(size_text)
 {
     struct form form = form_of((ByteSize){ 0 }, true);
 
@@ -238,13 +238,13 @@ static Datum in_unit(FunctionCallInfo fcinfo, int precision_at, int flags_at)
 }
 
 /* size_in(size, unit [, precision [, flags]]) */
-FUNCTION(size_in)
+SQL_FUNCTION(size_in)
 {
     return in_unit(fcinfo, 2, 3);
 }
 
 /* size_in(size, unit, flags) */
-FUNCTION(size_in_with_flags)
+SQL_FUNCTION(size_in_with_flags)
 {
     return in_unit(fcinfo, PG_NARGS(), 2); /* no argument is the precision */
 }
@@ -264,7 +264,7 @@ static uint32 unit_type_argument(FunctionCallInfo fcinfo, int n)
     return type;
 }
 
-FUNCTION(size_pretty)
+SQL_FUNCTION(size_pretty)
 {
     struct form form = form_of((ByteSize){ 0 }, false);
 
