@@ -6,8 +6,8 @@ use Rattle.std.proofs.lemmas.List.Concat.{flat_map-append}
 use Rattle.std.proofs.lemmas.List.Splits.{join_with_byte-slice_split}
 use Rattle.std.specs.List.{flat_map, join_with_byte, onto_first}
 use Rattle.byte_unit_command.specs.Field.{Found}
-use Rattle.byte_unit_command.specs.Fields.{at_blanks, begins_blank, between_of, blank_fields}
-use Rattle.byte_unit_command.specs.Fields.{bytes_between, fields_by, fields_of, is_blank}
+use Rattle.byte_unit_command.specs.Fields.{EndsFirst, begins_blank, between_by, between_of, blank_fields}
+use Rattle.byte_unit_command.specs.Fields.{fields_by, fields_of, is_blank}
 use Rattle.byte_unit_command.specs.Output.{AreFields, IsField, Output, Passes, copied, found_in, joined, messages_in}
 use Rattle.byte_unit_command.specs.Output.{other, together}
 use Rattle.byte_unit_command.specs.Sums.{has_rejected}
@@ -18,6 +18,8 @@ use Rattle.byte_unit_stream.specs.Records.{split_by}
 use Rattle.byte_unit_stream.specs.Steps.{Progress}
 use Rattle.byte_unit_command.specs.declared.error.Reason.{Reason}
 use Rattle.byte_unit_command.specs.declared.options.Options.{Options}
+use Rattle.byte_unit_command.specs.declared.options.Separator.{Separator}
+use Rattle.byte_unit_command.specs.declared.options.Separator.TheVariants.{Byte, Blanks}
 use Rattle.byte_unit_stream.specs.declared.run.RunError.{RunError}
 use Rattle.byte_unit_stream.proofs.Beginnings.{IsBeginningOf-trans}
 use Rattle.byte_unit_stream.proofs.ChunkRecords.{split_by_IsSplit, IsSplit}
@@ -155,28 +157,24 @@ joined-blanks (byte ∷ bytes) =
     (onto_first byte (blank_fields bytes)))) [ true ↦ alone | false ↦ joined-byte byte (blank_fields bytes) ] in
     both ∙ ap (λ rest. byte ∷ rest) (joined-blanks bytes)
 
--- between delimiters and between blanks
-module _ (options : Options) (delimiter : ℕ) (is : options.delimiter ≡ Some delimiter) (bytes : List ℕ) where
+-- fields that are separated
+module _ (options : Options) (separator : Separator) (is : options.separator ≡ Some separator) (bytes : List ℕ) where
   -- there is a first field, so the list of the fields is not empty
   pub fields_IsSplit : IsSplit (fields_of options bytes)
   fields_IsSplit =
-      let either : (blanks : Bool) → IsSplit (fields_by blanks (Some delimiter) bytes) =
-      λ blanks. elim blanks as (λ blanks. IsSplit (fields_by blanks (Some delimiter) bytes))
-      [ true ↦ blank_fields_IsSplit bytes | false ↦ split_by_IsSplit delimiter bytes ] in
-      subst (λ mark. IsSplit (fields_by (at_blanks options) mark bytes)) (sym is) (either (at_blanks options))
+      subst (λ separator. IsSplit (fields_by separator bytes)) (sym is) (elim separator as
+      (λ separator. IsSplit (fields_by (Some separator) bytes))
+      [ Byte mark ↦ split_by_IsSplit mark bytes | Blanks ↦ blank_fields_IsSplit bytes ])
 
   -- the fields with the bytes between them are the record
   fields_joined : joined (between_of options) (fields_of options bytes) ≡ bytes
   fields_joined =
-      let Whole : Bool → Option ℕ → Type 0 =
-      λ blanks mark. joined (bytes_between blanks mark) (fields_by blanks mark bytes) ≡ bytes in
-      let either : Whole (at_blanks options) (Some delimiter) =
-      elim (at_blanks options) as (λ blanks. Whole blanks (Some delimiter)) [
-        | true ↦ joined-blanks bytes
-        | false ↦
-            joined-split delimiter (split_by delimiter bytes) ∙ join_with_byte-slice_split delimiter bytes
-      ] in
-      subst (Whole (at_blanks options)) (sym is) either
+      let Whole : Option Separator → Type 0 =
+      λ separator. joined (between_by separator) (fields_by separator bytes) ≡ bytes in
+      subst Whole (sym is) (elim separator as (λ separator. Whole (Some separator)) [
+        | Byte mark ↦ joined-split mark (split_by mark bytes) ∙ join_with_byte-slice_split mark bytes
+        | Blanks ↦ joined-blanks bytes
+      ])
 
 -- between two fields of a record: those before are added, each with the bytes after it, and the rest gives the others
 pub record IsSplitting (bytes : List ℕ) (old : Progress RunState) (number : ℕ) (rest : List ℕ)
@@ -202,12 +200,6 @@ IsSplitting-start bytes old = record {
   appends = Appends-none old;
   few = omega arith;
 }
-
--- the first field ends at this place, and the others begin this number of bytes after it
-abbrev pub EndsFirst : Options → List ℕ → ℕ → ℕ → Type 0
-EndsFirst options bytes place gap =
-    (0 < place + gap) × (place + gap ≤ length bytes)
-    × (fields_of options bytes ≡ take place bytes ∷ fields_of options (drop (place + gap) bytes))
 
 module _ {bytes : List ℕ} {old : Progress RunState} {number : ℕ} {rest : List ℕ} {new : Progress RunState}
     (so_far : IsSplitting bytes old number rest new) where
@@ -235,12 +227,12 @@ module _ {bytes : List ℕ} {old : Progress RunState} {number : ℕ} {rest : Lis
       so_far.are_fields (subst (λ number. AreFields old.state.place number fields outputs) so_far.number_is are)
 
   -- the invariant holds after one more field and the bytes after it, `mark`
-  pub IsSplitting-step : (mark : List ℕ) → mark ≡ between → (place : ℕ) → EndsFirst options rest place (length between)
+  pub IsSplitting-step : (mark : List ℕ) → mark ≡ between → (place : ℕ) → EndsFirst options.separator rest place
       → (next : Progress RunState) → AddsFields number (take place rest ∷ []) new next
       → (out : List ℕ) → out ≡ next.out ++ mark → (behind : List ℕ) → behind ≡ drop (place + length mark) rest
       → IsSplitting bytes old (number + 1) behind (record next { out = out })
-  IsSplitting-step mark mark_is place ends_there next adds_new out out_is behind behind_is =
-      let ends = subst (λ (mark : List ℕ). EndsFirst options rest place (length mark)) (sym mark_is) ends_there in
+  IsSplitting-step mark mark_is place ends next adds_new out out_is behind behind_now =
+      let behind_is = behind_now ∙ ap (λ (mark : List ℕ). drop (place + length mark) rest) mark_is in
       let field = take place rest in
       let others = fields_of options behind in
       let adds = subst (λ at. AddsFields number (field ∷ []) at next) now_is adds_new in
@@ -262,7 +254,7 @@ module _ {bytes : List ℕ} {old : Progress RunState} {number : ℕ} {rest : Lis
           arith,
           so_far.few,
           ap (λ (behind : List ℕ). length behind) behind_is,
-          length-drop (place + length mark) rest,
+          length-drop (place + length between) rest,
           ends.0,
           ends.1,
         );
@@ -291,15 +283,15 @@ module _ {bytes : List ℕ} {old : Progress RunState} {number : ℕ} {rest : Lis
       (subst (λ at. AddsFields number (rest ∷ []) at next) now_is adds))
 
   -- if no other field is chosen, copying the rest adds the fields of the whole record
-  pub AddsFields-copied : (delimiter : ℕ) → options.delimiter ≡ Some delimiter
+  pub AddsFields-copied : (separator : Separator) → options.separator ≡ Some separator
       → ((later : ℕ) → number ≤ later → ¬ IsChosenField options.fields.now later)
       → (out : List ℕ) → out ≡ new.out ++ rest
       → AddsFields 1 (fields_of options bytes) old (record new { out = out })
-  AddsFields-copied delimiter is past out out_is =
+  AddsFields-copied separator is past out out_is =
       let fields = fields_of options rest in
-      let same = sym (together-copied between fields ∙ ap copied (fields_joined options delimiter is rest)) in
+      let same = sym (together-copied between fields ∙ ap copied (fields_joined options separator is rest)) in
       subst (λ (at : Progress RunState). AddsFields 1 (fields_of options bytes) old (record at { out = out }))
-      (sym now_is) (with-others (fields_IsSplit options delimiter is rest) (record now { out = out }) (record {
+      (sym now_is) (with-others (fields_IsSplit options separator is rest) (record now { out = out }) (record {
         outputs = map copied fields;
         are_fields = AreFields-copied old.state.place fields number past;
         passes = subst (λ (output : Output). Passes options output.found) same (λ mode. refl);

@@ -11,6 +11,8 @@ use Rattle.byte_unit_command.specs.declared.options.FieldRange.{FieldRange}
 use Rattle.byte_unit_command.specs.declared.options.Form.{Form}
 use Rattle.byte_unit_command.specs.declared.options.Form.TheVariants.{Exact, Largest}
 use Rattle.byte_unit_command.specs.declared.options.Options.{Options}
+use Rattle.byte_unit_command.specs.declared.options.Separator.{Separator}
+use Rattle.byte_unit_command.specs.declared.options.Separator.TheVariants.{Blanks}
 use Rattle.byte_unit_command.specs.declared.values.Values.{Values}
 use Rattle.byte_unit_command.specs.declared.wrong.ValueError.{ValueError}
 use Rattle.byte_unit_command.specs.declared.wrong.ValueError.TheVariants.{Delimiter, From, Mode, NoUnit, Precision}
@@ -31,11 +33,11 @@ abbrev pub IsFormOf : Values → Form → Type 0
 IsFormOf values form =
     IsForm (form_without values.human_readable) values.kind values.ignore_case (text_of values.to) form
 
--- the byte between two fields, by the delimiter that is given: with `--blanks` a space, in place of any blank
-abbrev pub IsSeparator : Values → Option ℕ → Type 0
+-- what separates fields: blanks with `--blanks`, and else the delimiter that is given
+abbrev pub IsSeparator : Values → Option Separator → Type 0
 IsSeparator values separator =
-    (delimiter : Option ℕ) × IsDelimiter (text_of values.delimiter) delimiter
-    × (separator ≡ (if values.blanks then Some 32 else delimiter))
+    (delimiter : Option Separator) × IsDelimiter (text_of values.delimiter) delimiter
+    × (separator ≡ (if values.blanks then Some Blanks else delimiter))
 
 -- the options of a call with these values and fields. Operands are records that end with a zero byte, and none of them
 -- is a header
@@ -47,8 +49,7 @@ pub record AreOptions (values : Values) (ranges : List FieldRange) (options : Op
   pub suffix : options.suffix.now ≡ unwrap_or (text_of values.suffix) []
   pub precision : options.precision ≡ precision_of values.human_readable values.precision
   pub padding : IsPadding (text_of values.padding) (options.width, options.align_left)
-  pub delimiter : IsSeparator values options.delimiter
-  pub blanks : options.blanks ≡ values.blanks
+  pub separator : IsSeparator values options.separator
   pub fields : options.fields.now ≡ ranges
   pub record_end : options.record_end ≡ (if values.has_operands then 0 else if values.zero_terminated then 0 else 10)
   pub output_end : options.output_end ≡ (if values.zero_terminated then 0 else 10)
@@ -102,7 +103,7 @@ IsWrongField values wrong =
 abbrev pub IsWrongSeparator : Values → Wrong → Type 0
 IsWrongSeparator values wrong =
     IsWrongOf (codes "--delimiter") values.delimiter (MeansNothing IsDelimiter Delimiter) wrong
-    ⊎ (delimiter : Option ℕ) × IsDelimiter (text_of values.delimiter) delimiter × IsWrongField values wrong
+    ⊎ (delimiter : Option Separator) × IsDelimiter (text_of values.delimiter) delimiter × IsWrongField values wrong
 
 -- an option is wrong; or it is right, and with what it means this holds of the later ones
 abbrev pub OrLater : {M : Type 0} → Type 0 → (M → Type 0) → (M → Type 0) → Type 0
@@ -116,7 +117,7 @@ IsFirstWrong values wrong =
     (λ given. IsFormOf values given × IsWithinExact given values.precision)
     (λ given. OrLater (IsWrongNoUnit values.no_unit given wrong) (IsOutputForm values.no_unit given)
     (λ _. OrLater (IsWrongSeparator values wrong)
-    (λ (mark : Option ℕ). IsSeparator values mark × AreFieldsSeparated values)
+    (λ (separator : Option Separator). IsSeparator values separator × AreFieldsSeparated values)
     (λ _. OrLater (IsWrongOf (codes "--padding") values.padding (MeansNothing IsPadding Padding) wrong)
     (IsPadding (text_of values.padding))
     (λ _. OrLater (IsWrongOf (codes "--invalid") values.invalid (MeansNothing IsMode Mode) wrong)

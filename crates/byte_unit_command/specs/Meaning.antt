@@ -19,6 +19,8 @@ use Rattle.byte_unit_command.specs.declared.options.Form.{Form}
 use Rattle.byte_unit_command.specs.declared.options.Form.TheVariants.{Exact, Plain, InUnit, NumberOf, Largest}
 use Rattle.byte_unit_command.specs.declared.options.Invalid.{Invalid}
 use Rattle.byte_unit_command.specs.declared.options.Invalid.TheVariants.{Abort, Fail, Warn, Ignore}
+use Rattle.byte_unit_command.specs.declared.options.Separator.{Separator}
+use Rattle.byte_unit_command.specs.declared.options.Separator.TheVariants.{Byte}
 use Rattle.byte_unit_command.specs.declared.wrong.ValueError.{ValueError}
 use Rattle.byte_unit_command.specs.declared.wrong.ValueError.TheVariants.{Unit as UnitFault, Blank}
 use Rattle.byte_unit_command.specs.declared.wrong.ValueError.TheVariants.{Size}
@@ -72,11 +74,12 @@ IsOutputForm true Plain form = form ≡ Plain
 IsOutputForm true given form = ⊥
 
 -- `--delimiter`: one byte, or `\t` (92, 116) for a tab (9); nothing for none
-abbrev pub IsDelimiter : Option (List ℕ) → Option ℕ → Type 0
+abbrev pub IsDelimiter : Option (List ℕ) → Option Separator → Type 0
 IsDelimiter None delimiter = delimiter ≡ None
 IsDelimiter (Some text) delimiter =
     (text ≡ []) × (delimiter ≡ None)
-    ⊎ (((byte : ℕ) × (text ≡ byte ∷ []) × (delimiter ≡ Some byte)) ⊎ (text ≡ 92 ∷ 116 ∷ []) × (delimiter ≡ Some 9))
+    ⊎ (((byte : ℕ) × (text ≡ byte ∷ []) × (delimiter ≡ Some (Byte byte)))
+    ⊎ (text ≡ 92 ∷ 116 ∷ []) × (delimiter ≡ Some (Byte 9)))
 
 -- the text is a number from 1 to 65535
 abbrev pub IsWidth : List ℕ → ℕ → Type 0

@@ -18,6 +18,7 @@ use Rattle.byte_unit_command.specs.declared.notice.FieldError.TheVariants.{NotUt
 use Rattle.byte_unit_command.specs.declared.options.Invalid.{Invalid}
 use Rattle.byte_unit_command.specs.declared.options.Invalid.TheVariants.{Abort, Fail, Warn, Ignore}
 use Rattle.byte_unit_command.specs.declared.options.Options.{Options}
+use Rattle.byte_unit_command.specs.declared.options.Separator.{Separator}
 
 -- the words for a reason. Those for a rejected field are the message of the error that the library has for it; where
 -- the library's contract says nothing of its message, since it quotes a character that is not ASCII, nothing is said
@@ -27,10 +28,10 @@ AreWords (Rejected e) words = IfSome (parse_text e.error) (λ text. words ≡ te
 AreWords Above words = words ≡ codes "above the maximum"
 AreWords Below words = words ≡ codes "below the minimum"
 
--- the number of the field, if there is a delimiter
-abbrev pub field_text : Option ℕ → ℕ → List ℕ
+-- the number of the field, if fields are separated
+abbrev pub field_text : Option Separator → ℕ → List ℕ
 field_text None number = []
-field_text (Some delimiter) number = codes "field " ++ decimal number ++ codes ": "
+field_text (Some separator) number = codes "field " ++ decimal number ++ codes ": "
 
 -- the beginning of a message: what a record is called, and its number
 abbrev pub record_text : Place → List ℕ
@@ -42,7 +43,7 @@ quoted_text field = codes "'" ++ quote field ++ codes "': "
 
 -- the place of a field
 abbrev pub place_text : Place → ℕ → List ℕ
-place_text place number = record_text place ++ field_text place.options.delimiter number
+place_text place number = record_text place ++ field_text place.options.separator number
 
 -- where a field is wrong
 abbrev pub location_of : FieldError → Location

@@ -2,18 +2,18 @@
 
 ghost use Rattle.std.specs.Prelude.{◌≡◌, ◌+◌, ◌≤◌, ◌∷◌, ℕ, [], Some, MatchResult, IsTrue, IsFalse};
 ghost use Rattle.byte_unit_command.specs.Field.{IsNoSize};
-ghost use Rattle.byte_unit_command.specs.Fields.{at_blanks, fields_of};
+ghost use Rattle.byte_unit_command.specs.Fields.{fields_of};
 ghost use Rattle.byte_unit_command.specs.Ranges.{AreApart, AreRangesFrom, GoesTo, InRange, IsChosenField};
 ghost use Rattle.byte_unit_command.specs.CallEnds.{Ends, IsEarlyAt, Keeps, TellsLimits, state_of};
 ghost use Rattle.byte_unit_command.specs.Converted.{converting};
 ghost use Rattle.byte_unit_stream.specs.Steps.{Adds};
 ghost use Rattle.byte_unit_stream.specs.declared.run.RunError.{RunError};
 
-use crate::blanks::{between, end_of_first, gap_of, width_of};
+use crate::blanks::{between, columns_in, end_of_first, gap_of};
 use crate::error::{Reason, RunError, RunResult};
 use crate::field_list::FieldList;
 use crate::notice::{Notices, Place, add_limit_notice, add_reject_notice};
-use crate::options::{FieldRange, Invalid, Options};
+use crate::options::{FieldRange, Invalid, Options, Separator};
 use crate::size::accepted;
 use crate::tally::Tally;
 use crate::text::{DIGITS, add_in_width};
@@ -78,38 +78,45 @@ impl<'a, A: Allocator> Converter<'a, A> {
             (state_of self.old) (state_of self.new) result }
     {
         let options = self.place.options;
-        match options.delimiter {
+        match options.separator {
             // The whole record is field 1.
-            None => self.add_field::<false>(1, bytes, chooses_first(options.fields)),
-            Some(delimiter) if options.blanks => self.add_split::<true>(delimiter, bytes),
-            Some(delimiter) => self.add_split::<false>(delimiter, bytes),
+            None => self.add_field(None, 1, bytes, chooses_first(options.fields)),
+            Some(separator) => self.add_separated(separator, bytes),
         }
     }
 
-    /// Does what [`add_fields`](Converter::add_fields) does, with the fields between delimiters or blanks. After the
-    /// last chosen field, copies the rest at once.
-    ///
-    /// Preconditions (proved at every call): `delimiter` is that of the options, and `BLANKS` says whether fields are
-    /// between blanks.
+    /// Does what [`add_split`](Converter::add_split) does, by a loop for each separator.
     #[inline(never)]
-    fn add_split<const BLANKS: bool>(&mut self, delimiter: u8, bytes: &[u8]) -> RunResult
-        requires delimiter { self.old.place.options.now.delimiter ≡ Some delimiter }
-        requires blanks { at_blanks self.old.place.options.now ≡ BLANKS }
+    fn add_separated(&mut self, separator: Separator, bytes: &[u8]) -> RunResult
+        requires { self.old.place.options.now.separator ≡ Some separator }
+        ensures { Ends 1 (fields_of self.old.place.options.now bytes.now)
+            (state_of self.old) (state_of self.new) result }
+    {
+        match separator {
+            Separator::Byte(byte) => self.add_split(Separator::Byte(byte), bytes),
+            Separator::Blanks => self.add_split(Separator::Blanks, bytes),
+        }
+    }
+
+    /// Does what [`add_fields`](Converter::add_fields) does, for fields that are separated. After the last chosen field,
+    /// copies the rest at once.
+    ///
+    /// Precondition (proved at every call): `separator` is that of the options.
+    #[inline(always)]
+    fn add_split(&mut self, separator: Separator, bytes: &[u8]) -> RunResult
+        requires { self.old.place.options.now.separator ≡ Some separator }
         ensures { Ends 1 (fields_of self.old.place.options.now bytes.now)
             (state_of self.old) (state_of self.new) result }
     {
         // For the proof: there are fewer fields than a `u64` counts.
         let _len = bytes.len();
-        let options = self.place.options;
-        let fields = ranges_after(options.fields.as_slice(), 0);
-        let mark = [delimiter];
-        let between = between(options, BLANKS, delimiter, &mark);
-        let mut ranges = fields;
+        let between = between(&separator);
+        let mut ranges = ranges_after(self.place.options.fields.as_slice(), 0);
         let mut rest = bytes;
         let mut number = 1u64;
-        while let Some(n) = end_of_first(options, BLANKS, delimiter, rest) {
+        while let Some(n) = end_of_first(separator, rest) {
             let chosen = is_chosen(ranges, number);
-            self.add_field::<BLANKS>(number, &rest[..n], chosen)?;
+            self.add_field(Some(separator), number, &rest[..n], chosen)?;
             self.waiting.extend_from_slice(between)?;
             rest = &rest[n + between.len()..];
             ranges = ranges_after(ranges, number);
@@ -120,26 +127,27 @@ impl<'a, A: Allocator> Converter<'a, A> {
             }
         }
         let chosen = is_chosen(ranges, number);
-        self.add_field::<BLANKS>(number, rest, chosen)
+        self.add_field(Some(separator), number, rest, chosen)
     }
 
     /// Appends what is written for the field with this number, and counts what is found in it.
     ///
-    /// Preconditions (proved at every call): `chosen` says whether the field is chosen, and `BLANKS` whether fields are
-    /// between blanks.
+    /// Preconditions (proved at every call): `separator` is that of the options, and `chosen` says whether the field is
+    /// chosen.
     ///
     /// # Errors
     ///
     /// - `Ended` for `Rejected` if the field is not a size, in the mode `abort`.
     /// - `Memory` if allocation fails.
     #[inline(always)]
-    fn add_field<const BLANKS: bool>(
+    fn add_field(
         &mut self,
+        separator: Option<Separator>,
         number: u64,
         field: &[u8],
         chosen: bool,
     ) -> RunResult
-        requires blanks { at_blanks self.old.place.options.now ≡ BLANKS }
+        requires separator { self.old.place.options.now.separator ≡ separator }
         requires yes { IsTrue chosen → IsChosenField self.old.place.options.now.fields.now number }
         requires no { IsFalse chosen → ¬ IsChosenField self.old.place.options.now.fields.now number }
         ensures { Ends number (field.now ∷ []) (state_of self.old) (state_of self.new) result }
@@ -154,8 +162,8 @@ impl<'a, A: Allocator> Converter<'a, A> {
         };
         self.count(number, field, size)?;
         self.waiting
-            .extend_from_slice(gap_of::<BLANKS>(number, field))?;
-        let width = width_of::<BLANKS>(options, number, field);
+            .extend_from_slice(gap_of(separator, number, field))?;
+        let width = columns_in(separator, options.width, number, field);
         add_in_width(options, width, size, &mut self.digits, &mut self.waiting)?;
         Ok(())
     }

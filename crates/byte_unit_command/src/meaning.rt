@@ -14,7 +14,7 @@ ghost use Rattle.byte_unit_command.specs.Prefixes.{IsReadingBy};
 ghost use Rattle.byte_unit_command.specs.Values.{text_of};
 
 use crate::field_list::{FieldList, positive_of};
-use crate::options::{Form, Invalid, Kind, Options, Unit, UnitType};
+use crate::options::{Form, Invalid, Kind, Options, Separator, Unit, UnitType};
 use crate::size::ignores_case;
 use crate::values::Values;
 use crate::wrong::{ValueError, Wrong};
@@ -37,7 +37,7 @@ pub fn options_of<'a>(values: &Values<'a>, fields: &'a FieldList) -> Result<Opti
     let binary = from_of(values.from)?;
     let given = form_of(values)?;
     let form = output_form(values.no_unit, given)?;
-    let delimiter = separator_of(values)?;
+    let separator = separator_of(values)?;
     let (width, align_left) = padding_of(values.padding)?;
     let invalid = invalid_of(values.invalid)?;
     let max = limit_of("--max", values.max, binary, kind, values.ignore_case)?;
@@ -57,8 +57,7 @@ pub fn options_of<'a>(values: &Values<'a>, fields: &'a FieldList) -> Result<Opti
         suffix: values.suffix.unwrap_or("").as_bytes(),
         width,
         align_left,
-        delimiter,
-        blanks: values.blanks,
+        separator,
         fields,
         // Each operand ends with a zero byte, and none is a header.
         record_end: if values.has_operands { 0 } else { output_end },
@@ -186,14 +185,13 @@ fn unit_of(value: &str, kind: Kind, ignore_case: bool) -> Result<Unit, ValueErro
     }
 }
 
-/// Returns the byte between two fields: a space if they are between blanks, and else the delimiter. Returns `None` if a
-/// record is one field.
+/// Returns what separates fields: blanks, or else the delimiter. Returns `None` if a record is one field.
 ///
 /// # Errors
 ///
 /// Returns an error if the delimiter is not empty, one byte or `\t`, or if `--field` is given and nothing separates the
 /// fields.
-fn separator_of<'a>(values: &Values<'a>) -> Result<Option<u8>, Wrong<'a>>
+fn separator_of<'a>(values: &Values<'a>) -> Result<Option<Separator>, Wrong<'a>>
     ensures ok { IfOk result (λ separator. IsSeparator values.now separator
         × AreFieldsSeparated values.now) }
     ensures err { IfErr result (IsWrongSeparator values.now) }
@@ -202,13 +200,13 @@ fn separator_of<'a>(values: &Values<'a>) -> Result<Option<u8>, Wrong<'a>>
         None => None,
         Some(value) => match value.as_bytes() {
             [] => None,
-            [byte] => Some(*byte),
-            b"\\t" => Some(b'\t'),
+            [byte] => Some(Separator::Byte(*byte)),
+            b"\\t" => Some(Separator::Byte(b'\t')),
             _ => return Err(wrong("--delimiter", value, ValueError::Delimiter)),
         },
     };
     if values.blanks {
-        return Ok(Some(b' '));
+        return Ok(Some(Separator::Blanks));
     }
     if values.field.is_some() && values.delimiter.is_none() {
         return Err(Wrong {

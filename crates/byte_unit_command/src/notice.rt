@@ -193,7 +193,7 @@ fn add_place<A: Allocator>(
     let word = place.word;
     let record = place.number;
     write!(line, "byte-unit: {word} {record}: ")?;
-    match place.options.delimiter {
+    match place.options.separator {
         None => Ok(()),
         Some(_) => write!(line, "field {number}: "),
     }

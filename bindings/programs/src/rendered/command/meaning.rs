@@ -3,7 +3,7 @@
 //! What the values of the options of a call mean.
 
 use crate::rendered::command::field_list::{FieldList, positive_of};
-use crate::rendered::command::options::{Form, Invalid, Kind, Options, Unit, UnitType};
+use crate::rendered::command::options::{Form, Invalid, Kind, Options, Separator, Unit, UnitType};
 use crate::rendered::command::size::ignores_case;
 use crate::rendered::command::values::Values;
 use crate::rendered::command::wrong::{ValueError, Wrong};
@@ -23,7 +23,7 @@ pub fn options_of<'a>(values: &Values<'a>, fields: &'a FieldList) -> Result<Opti
     let binary = from_of(values.from)?;
     let given = form_of(values)?;
     let form = output_form(values.no_unit, given)?;
-    let delimiter = separator_of(values)?;
+    let separator = separator_of(values)?;
     let (width, align_left) = padding_of(values.padding)?;
     let invalid = invalid_of(values.invalid)?;
     let max = limit_of("--max", values.max, binary, kind, values.ignore_case)?;
@@ -49,8 +49,7 @@ pub fn options_of<'a>(values: &Values<'a>, fields: &'a FieldList) -> Result<Opti
         suffix: values.suffix.unwrap_or("").as_bytes(),
         width,
         align_left,
-        delimiter,
-        blanks: values.blanks,
+        separator,
         fields,
         // Each operand ends with a zero byte, and none is a header.
         record_end: if values.has_operands { 0 } else { output_end },
@@ -149,25 +148,24 @@ fn unit_of(value: &str, kind: Kind, ignore_case: bool) -> Result<Unit, ValueErro
     }
 }
 
-/// Returns the byte between two fields: a space if they are between blanks, and else the delimiter. Returns `None` if a
-/// record is one field.
+/// Returns what separates fields: blanks, or else the delimiter. Returns `None` if a record is one field.
 ///
 /// # Errors
 ///
 /// Returns an error if the delimiter is not empty, one byte or `\t`, or if `--field` is given and nothing separates the
 /// fields.
-fn separator_of<'a>(values: &Values<'a>) -> Result<Option<u8>, Wrong<'a>> {
+fn separator_of<'a>(values: &Values<'a>) -> Result<Option<Separator>, Wrong<'a>> {
     let delimiter = match values.delimiter {
         None => None,
         Some(value) => match value.as_bytes() {
             [] => None,
-            [byte] => Some(*byte),
-            b"\\t" => Some(b'\t'),
+            [byte] => Some(Separator::Byte(*byte)),
+            b"\\t" => Some(Separator::Byte(b'\t')),
             _ => return Err(wrong("--delimiter", value, ValueError::Delimiter)),
         },
     };
     if values.blanks {
-        return Ok(Some(b' '));
+        return Ok(Some(Separator::Blanks));
     }
     if values.field.is_some() && values.delimiter.is_none() {
         return Err(Wrong { option: "--field", value: values.field, reason: ValueError::NoDelimiter });

@@ -147,7 +147,7 @@ fn add_place<A: Allocator>(place: &Place, number: u64, line: &mut String<A>) -> 
     let word = place.word;
     let record = place.number;
     write!(line, "byte-unit: {word} {record}: ")?;
-    match place.options.delimiter {
+    match place.options.separator {
         None => Ok(()),
         Some(_) => write!(line, "field {number}: "),
     }

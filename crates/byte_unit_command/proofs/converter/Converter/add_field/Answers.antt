@@ -23,9 +23,9 @@ returns g c =
     let told = c.in_ok-count.ensures in
     let gap = c.gap_of.result.now in
     let formatted = c.in_ok-add_in_width.ensures.ok in
-    let gap_is = c.gap_of.ensures ∙ ap (λ blanks. gap_by blanks number field) (sym c.requires.blanks) in
-    let width_is = c.width_of-width.ensures
-    ∙ ap (λ blanks. width_by blanks options.width number field) (sym c.requires.blanks) in
+    let gap_is = c.gap_of.ensures ∙ ap (λ separator. gap_by separator number field) (sym c.requires.separator) in
+    let width_is = c.columns_in-width.ensures
+    ∙ ap (λ separator. width_by separator options.width number field) (sym c.requires.separator) in
     let placed : IsPlaced options number field c.in-Some.size (gap ++ formatted.0) = record {
       formatted = formatted.0;
       is_formatted = subst (λ width. IsFormatted (record options { width = width }) c.in-Some.size formatted.0) width_is
