@@ -91,11 +91,16 @@ def read(data, options):
     return size_of(data, options.kind, options.ignore_case, binary=is_binary(options))
 
 
+def why_not(data, size):
+    """Returns why bytes are no size, and where."""
+    return located(data, size).removeprefix("the text is ")
+
+
 def limit(text, options):
     """Returns the size of `--max` or `--min`."""
     size = read(text.encode(), options)  # Without a suffix.
     if isinstance(size, Rejected):
-        raise Wrong(size.message)
+        raise Wrong(why_not(text.encode(), size))
     return size
 
 
@@ -214,8 +219,7 @@ class Run:
         size = read(text, options)
         if isinstance(size, Rejected):
             if options.invalid != "ignore":
-                why = located(text, size).removeprefix("the text is ")
-                self.tell(f"{named}: {why}", 0 if options.invalid == "warn" else 2)
+                self.tell(f"{named}: {why_not(text, size)}", 0 if options.invalid == "warn" else 2)
             if options.invalid == "abort":
                 raise Aborted
             return data

@@ -293,10 +293,13 @@ WRONG_VALUES = [
     (["--to=\x1b[31mKB", "1"], told("--to: '\\u{1b}[31mKB'", "not a form or a unit: " + unit("\\u{1b}"))),
     (["--min=x", "--max=y", "--to=z q"],
      told("--to: 'z q'", "not a form or a unit: " + unit(" ", "('B' or 'b' or no character is expected)"))),
-    ("--max=x", told("--max: 'x'", digit("x"))),
-    ("--max=", told("--max: ''", BLANK)),
-    (["--max=1,5 GB"], told("--max: '1,5 GB'", unit(","))),
-    (["--min=1\x9b"], told("--min: '1\\u{9b}'", unit("\\u{9b}"))),
+    ("--max=x", told("--max: 'x'", digit("x"), 1)),
+    ("--max=", told("--max: ''", BLANK, END)),
+    ("--max=1.", told("--max: '1.'", digit("."), END)),
+    (["--max=1,5 GB"], told("--max: '1,5 GB'", unit(","), 2)),
+    (["--min=1\x9b"], told("--min: '1\\u{9b}'", unit("\\u{9b}"), 2)),
+    (["--min=\u30001\u20ac "], told("--min: '\\u{3000}1\u20ac '", unit("\u20ac"), 3)),
+    ("--bits --from=iec --min=1KiBx", told("--min: '1KiBx'", unit("x", "('i' or no character is expected)"), 5)),
     ("--max=1000000000000RB", told("--max: '1000000000000RB'", "the value 1000000000000 exceeds the valid range")),
 ]
 

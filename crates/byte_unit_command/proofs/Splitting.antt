@@ -1,5 +1,5 @@
 -- Lemmas: the loop over the fields of a record.
-use Rattle.std.proofs.Common.{◌≡◌, ◌≤◌, ◌<◌, ℕ, ◌+◌, List, [], ◌∷◌, ◌++◌, length, Some, Bool, refl, sym, ap, subst, ◌∙◌}
+use Rattle.std.proofs.Common.{◌≡◌, ◌≤◌, ℕ, ◌+◌, List, [], ◌∷◌, ◌++◌, length, Some, refl, sym, ap, subst, ◌∙◌}
 use Rattle.std.proofs.Common.{arith, append_assoc, append-nil, inl, inr, true, false, cond, not, ◌&&◌, take, drop, Option}
 use Rattle.std.proofs.Common.{length-drop, length-append, map}
 use Rattle.std.proofs.lemmas.List.Concat.{flat_map-append}

@@ -2,7 +2,7 @@
 -- given.
 use Rattle.std.specs.Prelude.{◌≡◌, ◌≢◌, ℕ, ◌<◌, ◌^◌, ◌⊎◌, Bool, true, false, List, [], ◌∷◌, Option, None, Some, codes}
 use Rattle.std.specs.Str.{trim}
-use Rattle.byte_unit.specs.Errors.{size_fault, unit_fault}
+use Rattle.byte_unit.specs.Errors.{unit_fault}
 use Rattle.byte_unit.specs.Fault.{IsUnitFault}
 use Rattle.byte_unit.specs.Kinds.{flags_for}
 use Rattle.byte_unit.specs.SizeText.{trim_of}
@@ -12,9 +12,8 @@ use Rattle.byte_unit.specs.Version.{current}
 use Rattle.byte_unit.specs.declared.Kind.{Kind}
 use Rattle.byte_unit.specs.declared.Unit.{Unit as UnitName}
 use Rattle.byte_unit.specs.declared.UnitType.TheVariants.{Decimal, Binary, Both}
-use Rattle.byte_unit_command.specs.Field.{ignores_case}
 use Rattle.byte_unit_command.specs.Positive.{IsPositive}
-use Rattle.byte_unit_command.specs.Prefixes.{IsAcceptedBy, IsRejectedBy}
+use Rattle.byte_unit_command.specs.Prefixes.{IsAcceptedBy, IsSizeError}
 use Rattle.byte_unit_command.specs.declared.options.Form.{Form}
 use Rattle.byte_unit_command.specs.declared.options.Form.TheVariants.{Exact, Plain, InUnit, NumberOf, Largest}
 use Rattle.byte_unit_command.specs.declared.options.Invalid.{Invalid}
@@ -103,10 +102,10 @@ IsMode (Some text) invalid =
 abbrev pub IsLimit : Bool → Kind → Bool → Option (List ℕ) → Option ℕ → Type 0
 IsLimit binary kind ignore_case None limit = limit ≡ None
 IsLimit binary kind ignore_case (Some text) limit =
-    (size : ℕ) × IsAcceptedBy binary kind (ignores_case kind ignore_case) text size × (limit ≡ Some size)
+    (size : ℕ) × IsAcceptedBy binary kind ignore_case text size × (limit ≡ Some size)
 
 -- the text is no value of `--max` and `--min`, for this reason
 abbrev pub IsNoLimit : Bool → Kind → Bool → List ℕ → ValueError → Type 0
 IsNoLimit binary kind ignore_case text (Size error) =
-    IsRejectedBy binary kind (ignores_case kind ignore_case) text (size_fault error)
+    IsSizeError binary kind ignore_case text error
 IsNoLimit binary kind ignore_case text _ = ⊥

@@ -3,14 +3,12 @@ use Rattle.std.specs.Prelude.{◌≡◌, ℕ, Bool, true, false, IfSome, MatchBo
 use Rattle.std.specs.Prelude.{codes}
 use Rattle.std.specs.Fmt.{decimal}
 use Rattle.std.specs.Str.{IsUtf8}
-use Rattle.byte_unit.specs.ErrorPosition.{IsLocationOf, IsSizeLocation, location_words}
-use Rattle.byte_unit.specs.Errors.{size_fault}
+use Rattle.byte_unit.specs.ErrorPosition.{location_words}
 use Rattle.byte_unit.specs.FaultText.{parse_text}
 use Rattle.byte_unit_base.specs.Quoted.{quote}
-use Rattle.byte_unit_base.specs.declared.errors.Location.{Location}
-use Rattle.byte_unit_base.specs.declared.errors.Location.TheVariants.{Whole}
-use Rattle.byte_unit_command.specs.Field.{ignores_case, without_suffix}
-use Rattle.byte_unit_command.specs.Prefixes.{IsRejectedBy}
+use Rattle.byte_unit_base.specs.declared.errors.LocatedError.{LocatedError}
+use Rattle.byte_unit_command.specs.Field.{without_suffix}
+use Rattle.byte_unit_command.specs.Prefixes.{IsSizeError}
 use Rattle.byte_unit_command.specs.State.{Place}
 use Rattle.byte_unit_command.specs.Sums.{is_above, is_below}
 use Rattle.byte_unit_command.specs.declared.notice.FieldError.{FieldError}
@@ -20,11 +18,17 @@ use Rattle.byte_unit_command.specs.declared.options.Invalid.TheVariants.{Abort, 
 use Rattle.byte_unit_command.specs.declared.options.Options.{Options}
 use Rattle.byte_unit_command.specs.declared.options.Separator.{Separator}
 
--- the words for a reason. Those for a rejected field are the message of the error that the library has for it; where
--- the library's contract says nothing of its message, since it quotes a character that is not ASCII, nothing is said
+-- the words for an error of the parser: the message that the library has for it, and its location; where the library's
+-- contract says nothing of its message, since it quotes a character that is not ASCII, nothing is said of that
+abbrev pub AreErrorWords : LocatedError → List ℕ → Type 0
+AreErrorWords e words =
+    (message : List ℕ) × IfSome (parse_text e.error) (λ text. message ≡ text)
+    × (words ≡ message ++ location_words e.location)
+
+-- the words for a reason
 abbrev pub AreWords : FieldError → List ℕ → Type 0
 AreWords NotUtf8 words = words ≡ codes "not UTF-8"
-AreWords (Rejected e) words = IfSome (parse_text e.error) (λ text. words ≡ text)
+AreWords (Rejected e) words = AreErrorWords e words
 AreWords Above words = words ≡ codes "above the maximum"
 AreWords Below words = words ≡ codes "below the minimum"
 
@@ -45,16 +49,11 @@ quoted_text field = codes "'" ++ quote field ++ codes "': "
 abbrev pub place_text : Place → ℕ → List ℕ
 place_text place number = record_text place ++ field_text place.options.separator number
 
--- where a field is wrong
-abbrev pub location_of : FieldError → Location
-location_of (Rejected e) = e.location
-location_of _ = Whole
-
 -- a message about the field with this number, in the record at this place
 abbrev pub IsMessage : Place → ℕ → List ℕ → FieldError → List ℕ → Type 0
 IsMessage place number field reason text =
     (words : List ℕ) × AreWords reason words
-    × (text ≡ place_text place number ++ quoted_text field ++ words ++ location_words (location_of reason) ++ 10 ∷ [])
+    × (text ≡ place_text place number ++ quoted_text field ++ words ++ 10 ∷ [])
 
 -- such a message if it is told, and else nothing
 abbrev pub IsMessageIf : Bool → Place → ℕ → List ℕ → FieldError → List ℕ → Type 0
@@ -72,8 +71,7 @@ abbrev pub IsFieldError : Options → List ℕ → FieldError → Type 0
 IsFieldError options field NotUtf8 = ¬ IsUtf8 (without_suffix options.suffix.now field)
 IsFieldError options field (Rejected e) =
     let text = without_suffix options.suffix.now field in
-    IsUtf8 text × IsRejectedBy options.binary options.kind (ignores_case options.kind options.ignore_case) text
-    (size_fault e.error) × IsLocationOf (IsSizeLocation text) (size_fault e.error) e.location
+    IsUtf8 text × IsSizeError options.binary options.kind options.ignore_case text e
 IsFieldError options field _ = ⊥
 
 -- whether rejected fields are told

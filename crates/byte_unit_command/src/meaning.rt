@@ -5,20 +5,17 @@ ghost use Rattle.byte_unit_command.specs.CallOptions.{AreOptions, IsFirstWrong, 
 ghost use Rattle.byte_unit_command.specs.CallOptions.{IsFormOf, IsWithinExact, IsWrongForm};
 ghost use Rattle.byte_unit_command.specs.CallOptions.{IsWrongNoUnit, AreFieldsSeparated};
 ghost use Rattle.byte_unit_command.specs.CallOptions.{IsSeparator, IsWrongSeparator};
-ghost use Rattle.byte_unit_command.specs.Field.{ignores_case};
 ghost use Rattle.byte_unit_command.specs.Meaning.{IsFrom, IsOutputForm};
 ghost use Rattle.byte_unit_command.specs.Meaning.{IsUnitName, IsNoUnitName};
 ghost use Rattle.byte_unit_command.specs.Meaning.{IsPadding, IsWidth};
 ghost use Rattle.byte_unit_command.specs.Meaning.{IsMode, MeansNothing, IsLimit, IsNoLimit};
-ghost use Rattle.byte_unit_command.specs.Prefixes.{IsReadingBy};
 ghost use Rattle.byte_unit_command.specs.Values.{text_of};
 
 use crate::field_list::{FieldList, positive_of};
 use crate::options::{Form, Invalid, Kind, Options, Separator, Unit, UnitType};
-use crate::size::ignores_case;
+use crate::size::explain;
 use crate::values::Values;
 use crate::wrong::{ValueError, Wrong};
-use byte_unit_base::{ParseError, size};
 
 /// The most digits after the point that the exact form has: the library takes a greater precision as 28.
 const DECIMAL_PLACES: u16 = 28;
@@ -298,20 +295,10 @@ fn limit_of<'a>(
     let Some(value) = value else {
         return Ok(None);
     };
-    match parse_size(value, binary, kind, ignore_case) {
-        Ok(size) => Ok(Some(size)),
-        Err(error) => Err(wrong(option, value, ValueError::Size(error))),
-    }
-}
-
-/// Parses a size of a kind. Decimal prefixes mean binary ones if `binary` is set.
-fn parse_size(text: &str, binary: bool, kind: Kind, ignore_case: bool) -> Result<u128, ParseError>
-    ensures { IsReadingBy binary kind (ignores_case kind ignore_case) text.now result }
-{
-    let ignore_case = ignores_case(kind, ignore_case);
-    if binary {
-        size::parse::<true>(text, ignore_case, kind)
-    } else {
-        size::parse::<false>(text, ignore_case, kind)
+    match explain(binary, kind, ignore_case, value.as_bytes()) {
+        Some(Ok(size)) => Ok(Some(size)),
+        Some(Err(error)) => Err(wrong(option, value, ValueError::Size(error))),
+        // Never: a string is UTF-8.
+        None => Ok(None),
     }
 }

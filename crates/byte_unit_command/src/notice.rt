@@ -4,14 +4,14 @@ ghost use Rattle.std.specs.Prelude.{◌≡◌, ◌++◌, List, ℕ, Option, OnOk
 ghost use Rattle.std.specs.String.{string_bytes};
 ghost use Rattle.byte_unit_command.specs.Field.{IsNoSize};
 ghost use Rattle.byte_unit_command.specs.Messages.{AreLimitMessages, AreWords, IsRejectMessage};
-ghost use Rattle.byte_unit_command.specs.Messages.{IsMessage, IsMessageIf, IsFieldError, location_of};
+ghost use Rattle.byte_unit_command.specs.Messages.{AreErrorWords, IsMessage, IsMessageIf, IsFieldError};
 ghost use Rattle.byte_unit_command.specs.Messages.{place_text, quoted_text, tells_rejected as has_rejected_told};
 ghost use Rattle.byte_unit_command.specs.CallEnds.{messages_of, place_of};
 ghost use Rattle.byte_unit_stream.specs.Beginnings.{IsBeginningOf};
 
 use crate::options::{Invalid, Options};
-use crate::size::explain;
-use byte_unit_base::{LocatedError, Location, Quoted};
+use crate::size::{explain, without_suffix};
+use byte_unit_base::{LocatedError, Quoted};
 use std::alloc::{AllocError, Allocator};
 use std::fmt::Write;
 
@@ -93,7 +93,8 @@ fn reason_of(options: &Options, field: &[u8]) -> FieldError
     requires { IsNoSize options.now field.now }
     ensures { IsFieldError options.now field.now result }
 {
-    match explain(options, field) {
+    let text = without_suffix(options.suffix, field);
+    match explain(options.binary, options.kind, options.ignore_case, text) {
         Some(Err(error)) => FieldError::Rejected(error),
         // Never: a field that is parsed as a size is one.
         Some(Ok(_)) => FieldError::NotUtf8,
@@ -172,7 +173,6 @@ fn add_message<A: Allocator>(
     add_place(place, number, &mut notices.line)?;
     add_quoted(field, &mut notices.line)?;
     add_words(reason, &mut notices.words, &mut notices.line)?;
-    write!(notices.line, "{}", location_of(reason))?;
     notices.line.push_str("\n")?;
     notices.messages.extend_from_slice(notices.line.as_bytes())
 }
@@ -226,24 +226,29 @@ fn add_words<A: Allocator>(
 {
     match reason {
         FieldError::NotUtf8 => line.push_str("not UTF-8"),
-        FieldError::Rejected(error) => {
-            // Not to `line`: no contract says what `write!` leaves in its target for an error with a character that is
-            // not ASCII, and the place and the quoted field in `line` have to stay.
-            words.clear();
-            write!(words, "{}", error.error)?;
-            line.push_str(words.as_str())
-        }
+        FieldError::Rejected(error) => add_error(error, words, line),
         FieldError::Above => line.push_str("above the maximum"),
         FieldError::Below => line.push_str("below the minimum"),
     }
 }
 
-/// Returns where a field is wrong.
-fn location_of(reason: &FieldError) -> Location
-    ensures { result ≡ location_of reason.now }
+/// Appends the message of an error of the parser, and where it is. `words` is a buffer for the message.
+///
+/// # Errors
+///
+/// Returns `AllocError` if allocation fails.
+pub(crate) fn add_error<A: Allocator>(
+    error: &LocatedError,
+    words: &mut String<A>,
+    line: &mut String<A>,
+) -> Result<(), AllocError>
+    ensures { OnOk result ((text : List ℕ) × AreErrorWords error.now text
+        × (string_bytes line.new ≡ string_bytes line.old ++ text)) }
 {
-    match reason {
-        FieldError::Rejected(error) => error.location,
-        _ => Location::Whole,
-    }
+    // Not to `line`: no contract says what `write!` leaves in its target for an error with a character that is not
+    // ASCII, and what is in `line` has to stay.
+    words.clear();
+    write!(words, "{}", error.error)?;
+    line.push_str(words.as_str())?;
+    write!(line, "{}", error.location)
 }

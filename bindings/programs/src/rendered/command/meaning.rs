@@ -4,10 +4,9 @@
 
 use crate::rendered::command::field_list::{FieldList, positive_of};
 use crate::rendered::command::options::{Form, Invalid, Kind, Options, Separator, Unit, UnitType};
-use crate::rendered::command::size::ignores_case;
+use crate::rendered::command::size::explain;
 use crate::rendered::command::values::Values;
 use crate::rendered::command::wrong::{ValueError, Wrong};
-use byte_unit::rendered::base::{ParseError, size};
 
 /// The most digits after the point that the exact form has: the library takes a greater precision as 28.
 const DECIMAL_PLACES: u16 = 28;
@@ -236,14 +235,10 @@ fn limit_of<'a>(
     let Some(value) = value else {
         return Ok(None);
     };
-    match parse_size(value, binary, kind, ignore_case) {
-        Ok(size) => Ok(Some(size)),
-        Err(error) => Err(wrong(option, value, ValueError::Size(error))),
+    match explain(binary, kind, ignore_case, value.as_bytes()) {
+        Some(Ok(size)) => Ok(Some(size)),
+        Some(Err(error)) => Err(wrong(option, value, ValueError::Size(error))),
+        // Never: a string is UTF-8.
+        None => Ok(None),
     }
-}
-
-/// Parses a size of a kind. Decimal prefixes mean binary ones if `binary` is set.
-fn parse_size(text: &str, binary: bool, kind: Kind, ignore_case: bool) -> Result<u128, ParseError> {
-    let ignore_case = ignores_case(kind, ignore_case);
-    if binary { size::parse::<true>(text, ignore_case, kind) } else { size::parse::<false>(text, ignore_case, kind) }
 }

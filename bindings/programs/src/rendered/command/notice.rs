@@ -5,8 +5,8 @@
 use crate::rattle::alloc::{AllocError, Allocator};
 use crate::rattle::{String, Vec};
 use crate::rendered::command::options::{Invalid, Options};
-use crate::rendered::command::size::explain;
-use byte_unit::rendered::base::{LocatedError, Location, Quoted};
+use crate::rendered::command::size::{explain, without_suffix};
+use byte_unit::rendered::base::{LocatedError, Quoted};
 
 /// The place of a record: what a message about a field of it needs beside the field.
 #[derive(Clone, Copy)]
@@ -73,7 +73,8 @@ fn tells_rejected(invalid: Invalid) -> bool {
 ///
 /// Precondition: the field is not a size.
 fn reason_of(options: &Options, field: &[u8]) -> FieldError {
-    match explain(options, field) {
+    let text = without_suffix(options.suffix, field);
+    match explain(options.binary, options.kind, options.ignore_case, text) {
         Some(Err(error)) => FieldError::Rejected(error),
         // Never: a field that is parsed as a size is one.
         Some(Ok(_)) => FieldError::NotUtf8,
@@ -133,7 +134,6 @@ fn add_message<A: Allocator>(
     add_place(place, number, &mut notices.line)?;
     add_quoted(field, &mut notices.line)?;
     add_words(reason, &mut notices.words, &mut notices.line)?;
-    write!(notices.line, "{}", location_of(reason))?;
     notices.line.push_str("\n")?;
     notices.messages.extend_from_slice(notices.line.as_bytes())
 }
@@ -170,22 +170,26 @@ pub(crate) fn add_quoted<A: Allocator>(field: &[u8], line: &mut String<A>) -> Re
 fn add_words<A: Allocator>(reason: &FieldError, words: &mut String<A>, line: &mut String<A>) -> Result<(), AllocError> {
     match reason {
         FieldError::NotUtf8 => line.push_str("not UTF-8"),
-        FieldError::Rejected(error) => {
-            // Not to `line`: no contract says what `write!` leaves in its target for an error with a character that is
-            // not ASCII, and the place and the quoted field in `line` have to stay.
-            words.clear();
-            write!(words, "{}", error.error)?;
-            line.push_str(words.as_str())
-        }
+        FieldError::Rejected(error) => add_error(error, words, line),
         FieldError::Above => line.push_str("above the maximum"),
         FieldError::Below => line.push_str("below the minimum"),
     }
 }
 
-/// Returns where a field is wrong.
-fn location_of(reason: &FieldError) -> Location {
-    match reason {
-        FieldError::Rejected(error) => error.location,
-        _ => Location::Whole,
-    }
+/// Appends the message of an error of the parser, and where it is. `words` is a buffer for the message.
+///
+/// # Errors
+///
+/// Returns `AllocError` if allocation fails.
+pub(crate) fn add_error<A: Allocator>(
+    error: &LocatedError,
+    words: &mut String<A>,
+    line: &mut String<A>,
+) -> Result<(), AllocError> {
+    // Not to `line`: no contract says what `write!` leaves in its target for an error with a character that is not
+    // ASCII, and what is in `line` has to stay.
+    words.clear();
+    write!(words, "{}", error.error)?;
+    line.push_str(words.as_str())?;
+    write!(line, "{}", error.location)
 }

@@ -10,30 +10,20 @@ use std::str;
 /// Parses a field, without the suffix of the options, as a size of their kind. Returns `None` if it is not UTF-8.
 pub(crate) fn parse(options: &Options, field: &[u8]) -> Option<Result<u128, ParseError>> {
     let text = without_suffix(options.suffix, field);
-    let ignore_case = ignores_case(options.kind, options.ignore_case);
     if options.binary {
-        size::parse_bytes::<true>(text, ignore_case, options.kind)
+        size::parse_bytes::<true>(text, options.ignore_case, options.kind)
     } else {
-        size::parse_bytes::<false>(text, ignore_case, options.kind)
+        size::parse_bytes::<false>(text, options.ignore_case, options.kind)
     }
 }
 
-/// Parses a field as [`parse`] does, for a message: with the location of the error.
-pub(crate) fn explain(options: &Options, field: &[u8]) -> Option<Result<u128, LocatedError>> {
-    let text = without_suffix(options.suffix, field);
-    let ignore_case = ignores_case(options.kind, options.ignore_case);
-    if options.binary {
-        size::explain::<true>(text, ignore_case, options.kind)
+/// Parses a size of a kind, for a message: with the location of the error. A decimal prefix means the binary one if
+/// `binary` is set. Returns `None` if the text is not UTF-8.
+pub(crate) fn explain(binary: bool, kind: Kind, ignore_case: bool, text: &[u8]) -> Option<Result<u128, LocatedError>> {
+    if binary {
+        size::explain::<true>(text, ignore_case, kind)
     } else {
-        size::explain::<false>(text, ignore_case, options.kind)
-    }
-}
-
-/// Returns `true` if case is ignored. It is always significant in sizes in bits.
-pub(crate) fn ignores_case(kind: Kind, ignore_case: bool) -> bool {
-    match kind {
-        Kind::Byte => ignore_case,
-        Kind::Bit => false,
+        size::explain::<false>(text, ignore_case, kind)
     }
 }
 
@@ -88,7 +78,7 @@ fn plain_size(options: &Options, text: &[u8]) -> u128 {
             Some(Err(_)) => NO_SIZE,
             None => NO_SIZE,
         },
-        Kind::Bit => match size::parse_bytes::<false>(text, false, Kind::Bit) {
+        Kind::Bit => match size::parse_bytes::<false>(text, options.ignore_case, Kind::Bit) {
             Some(Ok(size)) => size,
             Some(Err(_)) => NO_SIZE,
             None => NO_SIZE,
