@@ -128,12 +128,12 @@ OPTIONS = {
     "from": Option("", "auto", lambda text, options: checked(
         text, text in ("auto", "si", "iec", "iec-i"), "not auto, si, iec or iec-i"), None),
     "to": Option("", lambda options: "iec" if options.human_readable else "exact", form, None),
+    "precision": Option("p", lambda options: 1 if options.human_readable else None, lambda text, options: checked(
+        int(text), int(text) <= 28 or options.to != "exact", "above 28 in the form exact", False), None),
     "no-unit": Option("", False, lambda text, options: checked(
         True, options.to == "plain" or options.to not in FORMS,
         "needs --to=plain or --to with a unit, such as --to=MiB", False)),
     "suffix": Option("", "", lambda text, options: text, None),
-    "precision": Option("p", lambda options: 1 if options.human_readable else None, lambda text, options: checked(
-        int(text), int(text) <= 28 or options.to != "exact", "above 28 in the form exact", False), None),
     "delimiter": Option("d", None, lambda text, options: checked(
         text.replace("\\t", "\t").encode() or None, text == "\\t" or len(text.encode()) <= 1,
         "not one character of one byte"), None),

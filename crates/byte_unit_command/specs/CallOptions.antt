@@ -1,6 +1,6 @@
 -- The options of a call, by the values of its options.
 use Rattle.std.specs.Prelude.{◌≡◌, ℕ, ◌≤◌, ⊤, ◌⊎◌, Bool, true, false, if◌then◌else◌, List, [], Option, None, Some}
-use Rattle.std.specs.Prelude.{MatchOption, unwrap_or, is_some, codes}
+use Rattle.std.specs.Prelude.{MatchOption, option_map, unwrap_or, is_some, codes}
 use Rattle.std.specs.Borrow.{Bor}
 use Rattle.byte_unit.specs.declared.UnitType.TheVariants.{Binary}
 use Rattle.byte_unit_command.specs.Meaning.{IsFrom, IsOutputForm, MeansNothing}
@@ -16,7 +16,7 @@ use Rattle.byte_unit_command.specs.declared.options.Separator.TheVariants.{Blank
 use Rattle.byte_unit_command.specs.declared.values.Values.{Values}
 use Rattle.byte_unit_command.specs.declared.wrong.ValueError.{ValueError}
 use Rattle.byte_unit_command.specs.declared.wrong.ValueError.TheVariants.{Delimiter, From, Mode, NoUnit, Precision}
-use Rattle.byte_unit_command.specs.declared.wrong.ValueError.TheVariants.{NoDelimiter, Padding}
+use Rattle.byte_unit_command.specs.declared.wrong.ValueError.TheVariants.{Fields, NoDelimiter, Padding}
 use Rattle.byte_unit_command.specs.declared.wrong.Wrong.{Wrong}
 
 -- the form without `--to`: `-H` means `--to=iec -p 1`, but for what `--to` and `-p` say
@@ -105,23 +105,34 @@ IsWrongSeparator values wrong =
     IsWrongOf (codes "--delimiter") values.delimiter (MeansNothing IsDelimiter Delimiter) wrong
     ⊎ (delimiter : Option Separator) × IsDelimiter (text_of values.delimiter) delimiter × IsWrongField values wrong
 
+-- the ranges of a list of fields
+abbrev pub ranges_of : Option (Bor (List FieldRange)) → Option (List FieldRange)
+ranges_of fields = option_map (λ list. list.now) fields
+
+-- `--field` is not a list of fields
+abbrev pub IsWrongList : Values → Option (Bor (List FieldRange)) → Wrong → Type 0
+IsWrongList values fields wrong =
+    (ranges_of fields ≡ None) × (wrong.option.now ≡ codes "--field") × (text_of wrong.value ≡ text_of values.field)
+    × (wrong.reason ≡ Fields)
+
 -- an option is wrong; or it is right, and with what it means this holds of the later ones
 abbrev pub OrLater : {M : Type 0} → Type 0 → (M → Type 0) → (M → Type 0) → Type 0
 OrLater {M} is_wrong IsRight Later = is_wrong ⊎ (meaning : M) × IsRight meaning × Later meaning
 
--- this is the first option that is wrong, in this order
-abbrev pub IsFirstWrong : Values → Wrong → Type 0
-IsFirstWrong values wrong =
+-- this is the first option that is wrong, in this order; `fields` is the list that `--field` is, if it is one
+abbrev pub IsFirstWrong : Values → Option (Bor (List FieldRange)) → Wrong → Type 0
+IsFirstWrong values fields wrong =
     OrLater (IsWrongOf (codes "--from") values.from (MeansNothing IsFrom From) wrong) (IsFrom (text_of values.from))
     (λ binary. OrLater (IsWrongForm values wrong)
     (λ given. IsFormOf values given × IsWithinExact given values.precision)
     (λ given. OrLater (IsWrongNoUnit values.no_unit given wrong) (IsOutputForm values.no_unit given)
     (λ _. OrLater (IsWrongSeparator values wrong)
     (λ (separator : Option Separator). IsSeparator values separator × AreFieldsSeparated values)
+    (λ _. OrLater (IsWrongList values fields wrong) (λ (ranges : List FieldRange). ranges_of fields ≡ Some ranges)
     (λ _. OrLater (IsWrongOf (codes "--padding") values.padding (MeansNothing IsPadding Padding) wrong)
     (IsPadding (text_of values.padding))
     (λ _. OrLater (IsWrongOf (codes "--invalid") values.invalid (MeansNothing IsMode Mode) wrong)
     (IsMode (text_of values.invalid))
     (λ _. OrLater (IsWrongOf (codes "--max") values.max (IsNoLimit binary values.kind values.ignore_case) wrong)
     (IsLimit binary values.kind values.ignore_case (text_of values.max))
-    (λ _. IsWrongOf (codes "--min") values.min (IsNoLimit binary values.kind values.ignore_case) wrong)))))))
+    (λ _. IsWrongOf (codes "--min") values.min (IsNoLimit binary values.kind values.ignore_case) wrong))))))))

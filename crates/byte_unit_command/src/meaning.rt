@@ -1,15 +1,16 @@
 //! What the values of the options of a call mean.
 
-ghost use Rattle.std.specs.Prelude.{◌≡◌, ℕ, Bool, Some, MatchOption, MatchResult, IfOk, IfErr, codes};
+ghost use Rattle.std.specs.Prelude.{◌≡◌, ℕ, Bool, List, Some, MatchOption, MatchResult, IfOk, IfErr, codes};
 ghost use Rattle.byte_unit_command.specs.CallOptions.{AreOptions, IsFirstWrong, IsWrongOf};
 ghost use Rattle.byte_unit_command.specs.CallOptions.{IsFormOf, IsWithinExact, IsWrongForm};
 ghost use Rattle.byte_unit_command.specs.CallOptions.{IsWrongNoUnit, AreFieldsSeparated};
-ghost use Rattle.byte_unit_command.specs.CallOptions.{IsSeparator, IsWrongSeparator};
+ghost use Rattle.byte_unit_command.specs.CallOptions.{IsSeparator, IsWrongSeparator, IsWrongList, ranges_of};
 ghost use Rattle.byte_unit_command.specs.Meaning.{IsFrom, IsOutputForm};
 ghost use Rattle.byte_unit_command.specs.Meaning.{IsUnitName, IsNoUnitName};
 ghost use Rattle.byte_unit_command.specs.Meaning.{IsPadding, IsWidth};
 ghost use Rattle.byte_unit_command.specs.Meaning.{IsMode, MeansNothing, IsLimit, IsNoLimit};
 ghost use Rattle.byte_unit_command.specs.Values.{text_of};
+ghost use Rattle.byte_unit_command.specs.declared.options.FieldRange.{FieldRange};
 
 use crate::field_list::{FieldList, positive_of};
 use crate::options::{Form, Invalid, Kind, Options, Separator, Unit, UnitType};
@@ -20,21 +21,26 @@ use crate::wrong::{ValueError, Wrong};
 /// The most digits after the point that the exact form has: the library takes a greater precision as 28.
 const DECIMAL_PLACES: u16 = 28;
 
-/// Returns the options of a call. `fields` are those that `field_list::fields_of` returned.
+/// Returns the options of a call. `fields` is what `field_list::fields_of` returned for the value of `--field`.
 ///
 /// # Errors
 ///
 /// Returns the first option that is wrong, in the order of `--from`, `--to`, `--precision`, `--no-unit`, `--delimiter`,
 /// `--field`, `--padding`, `--invalid`, `--max` and `--min`.
-pub fn options_of<'a>(values: &Values<'a>, fields: &'a FieldList) -> Result<Options<'a>, Wrong<'a>>
-    ensures ok { IfOk result (AreOptions values.now fields.now) }
-    ensures err { IfErr result (IsFirstWrong values.now) }
+pub fn options_of<'a>(
+    values: &Values<'a>,
+    fields: Option<&'a FieldList>,
+) -> Result<Options<'a>, Wrong<'a>>
+    ensures ok { IfOk result (λ options. (ranges : List FieldRange)
+        × (ranges_of fields.entry ≡ Some ranges) × AreOptions values.now ranges options) }
+    ensures err { IfErr result (IsFirstWrong values.now fields.entry) }
 {
     let kind = values.kind;
     let binary = from_of(values.from)?;
     let given = form_of(values)?;
     let form = output_form(values.no_unit, given)?;
     let separator = separator_of(values)?;
+    let fields = listed(values, fields)?;
     let (width, align_left) = padding_of(values.padding)?;
     let invalid = invalid_of(values.invalid)?;
     let max = limit_of("--max", values.max, binary, kind, values.ignore_case)?;
@@ -213,6 +219,28 @@ fn separator_of<'a>(values: &Values<'a>) -> Result<Option<Separator>, Wrong<'a>>
         });
     }
     Ok(delimiter)
+}
+
+/// Returns the fields that are converted.
+///
+/// # Errors
+///
+/// Returns an error if the value of `--field` is not a list of fields.
+fn listed<'a>(
+    values: &Values<'a>,
+    fields: Option<&'a FieldList>,
+) -> Result<&'a FieldList, Wrong<'a>>
+    ensures ok { IfOk result (λ list. ranges_of fields.entry ≡ Some list.now) }
+    ensures err { IfErr result (IsWrongList values.now fields.entry) }
+{
+    match fields {
+        Some(fields) => Ok(fields),
+        None => Err(Wrong {
+            option: "--field",
+            value: values.field,
+            reason: ValueError::Fields,
+        }),
+    }
 }
 
 /// Returns the width, and whether sizes are aligned to the left.

@@ -11,18 +11,19 @@ use crate::rendered::command::wrong::{ValueError, Wrong};
 /// The most digits after the point that the exact form has: the library takes a greater precision as 28.
 const DECIMAL_PLACES: u16 = 28;
 
-/// Returns the options of a call. `fields` are those that `field_list::fields_of` returned.
+/// Returns the options of a call. `fields` is what `field_list::fields_of` returned for the value of `--field`.
 ///
 /// # Errors
 ///
 /// Returns the first option that is wrong, in the order of `--from`, `--to`, `--precision`, `--no-unit`, `--delimiter`,
 /// `--field`, `--padding`, `--invalid`, `--max` and `--min`.
-pub fn options_of<'a>(values: &Values<'a>, fields: &'a FieldList) -> Result<Options<'a>, Wrong<'a>> {
+pub fn options_of<'a>(values: &Values<'a>, fields: Option<&'a FieldList>) -> Result<Options<'a>, Wrong<'a>> {
     let kind = values.kind;
     let binary = from_of(values.from)?;
     let given = form_of(values)?;
     let form = output_form(values.no_unit, given)?;
     let separator = separator_of(values)?;
+    let fields = listed(values, fields)?;
     let (width, align_left) = padding_of(values.padding)?;
     let invalid = invalid_of(values.invalid)?;
     let max = limit_of("--max", values.max, binary, kind, values.ignore_case)?;
@@ -170,6 +171,18 @@ fn separator_of<'a>(values: &Values<'a>) -> Result<Option<Separator>, Wrong<'a>>
         return Err(Wrong { option: "--field", value: values.field, reason: ValueError::NoDelimiter });
     }
     Ok(delimiter)
+}
+
+/// Returns the fields that are converted.
+///
+/// # Errors
+///
+/// Returns an error if the value of `--field` is not a list of fields.
+fn listed<'a>(values: &Values<'a>, fields: Option<&'a FieldList>) -> Result<&'a FieldList, Wrong<'a>> {
+    match fields {
+        Some(fields) => Ok(fields),
+        None => Err(Wrong { option: "--field", value: values.field, reason: ValueError::Fields }),
+    }
 }
 
 /// Returns the width, and whether sizes are aligned to the left.
