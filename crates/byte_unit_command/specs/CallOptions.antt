@@ -48,7 +48,7 @@ pub record AreOptions (values : Values) (ranges : List FieldRange) (options : Op
   pub form : (given : Form) × IsFormOf values given × IsOutputForm values.no_unit given options.form
   pub suffix : options.suffix.now ≡ unwrap_or (text_of values.suffix) []
   pub precision : options.precision ≡ precision_of values.human_readable values.precision
-  pub padding : IsPadding (text_of values.padding) (options.width, options.align_left)
+  pub padding : IsPadding (text_of values.padding) (record { width = options.width; align_left = options.align_left })
   pub separator : IsSeparator values options.separator
   pub fields : options.fields.now ≡ ranges
   pub record_end : options.record_end ≡ (if values.has_operands then 0 else if values.zero_terminated then 0 else 10)

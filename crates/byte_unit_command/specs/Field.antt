@@ -4,7 +4,7 @@ use Rattle.std.specs.Prelude.{take, Option}
 use Rattle.std.specs.List.{ends_with}
 use Rattle.std.specs.Str.{IsUtf8, is_utf8, trim_end}
 use Rattle.byte_unit.specs.Fault.{Fault}
-use Rattle.byte_unit_command.specs.Fields.{gap_of, width_of}
+use Rattle.byte_unit_command.specs.Fields.{gap_of, columns_in}
 use Rattle.byte_unit_command.specs.Prefixes.{IsAcceptedBy, IsRejectedBy}
 use Rattle.byte_unit_command.specs.Formatted.{IsFormatted}
 use Rattle.byte_unit_command.specs.declared.options.Options.{Options}
@@ -54,8 +54,8 @@ abbrev pub Found : Type 0
 Found = Option ℕ
 
 -- the text that replaces the field with this number if the field is this size: the size formatted in the columns of
--- `width_of`, after the blank that separates the field from the one before it
+-- `columns_in`, after the blank that separates the field from the one before it
 pub record IsPlaced (options : Options) (number : ℕ) (field : List ℕ) (size : ℕ) (text : List ℕ) : Type 0 where
   pub formatted : List ℕ
-  pub is_formatted : IsFormatted (record options { width = width_of options number field }) size formatted
+  pub is_formatted : IsFormatted (record options { width = columns_in options number field }) size formatted
   pub text_is : text ≡ gap_of options number field ++ formatted

@@ -67,10 +67,10 @@ columns_of number field = cond (nat_lt 1 number) (length field - 1) (cond (begin
 
 -- the least number of columns of a size that replaces a field: that of the options; without one, and between blanks,
 -- the columns of the field
-abbrev pub width_by : Option Separator → ℕ → ℕ → List ℕ → ℕ
-width_by (Some Blanks) width number field = cond (width == 0) (columns_of number field) width
-width_by _ width number field = width
+abbrev pub columns_by : Option Separator → ℕ → ℕ → List ℕ → ℕ
+columns_by (Some Blanks) width number field = cond (width == 0) (columns_of number field) width
+columns_by _ width number field = width
 
 -- the least number of columns of a size in place of this field, by the options
-abbrev pub width_of : Options → ℕ → List ℕ → ℕ
-width_of options number field = width_by options.separator options.width number field
+abbrev pub columns_in : Options → ℕ → List ℕ → ℕ
+columns_in options number field = columns_by options.separator options.width number field

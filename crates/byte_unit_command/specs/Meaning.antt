@@ -14,6 +14,7 @@ use Rattle.byte_unit.specs.declared.Unit.{Unit as UnitName}
 use Rattle.byte_unit.specs.declared.UnitType.TheVariants.{Decimal, Binary, Both}
 use Rattle.byte_unit_command.specs.Positive.{IsPositive}
 use Rattle.byte_unit_command.specs.Prefixes.{IsAcceptedBy, IsSizeError}
+use Rattle.byte_unit_command.specs.declared.meaning.Padding.{Padding}
 use Rattle.byte_unit_command.specs.declared.options.Form.{Form}
 use Rattle.byte_unit_command.specs.declared.options.Form.TheVariants.{Exact, Plain, InUnit, NumberOf, Largest}
 use Rattle.byte_unit_command.specs.declared.options.Invalid.{Invalid}
@@ -85,11 +86,11 @@ abbrev pub IsWidth : List ℕ → ℕ → Type 0
 IsWidth text width = IsPositive text width × (width < 2 ^ 16)
 
 -- `--padding`: a width, and whether sizes are aligned to the left, which a hyphen (45) before it says
-abbrev pub IsPadding : Option (List ℕ) → ℕ × Bool → Type 0
-IsPadding None padding = (padding.0 ≡ 0) × (padding.1 ≡ false)
+abbrev pub IsPadding : Option (List ℕ) → Padding → Type 0
+IsPadding None padding = (padding.width ≡ 0) × (padding.align_left ≡ false)
 IsPadding (Some text) padding =
-    IsWidth text padding.0 × (padding.1 ≡ false)
-    ⊎ (digits : List ℕ) × (text ≡ 45 ∷ digits) × IsWidth digits padding.0 × (padding.1 ≡ true)
+    IsWidth text padding.width × (padding.align_left ≡ false)
+    ⊎ (digits : List ℕ) × (text ≡ 45 ∷ digits) × IsWidth digits padding.width × (padding.align_left ≡ true)
 
 -- the value of `--invalid` is the word for this mode; without the option the mode is `abort`
 abbrev pub IsMode : Option (List ℕ) → Invalid → Type 0

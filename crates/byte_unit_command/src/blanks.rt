@@ -3,7 +3,7 @@
 ghost use Rattle.std.specs.Prelude.{◌≡◌, ◌+◌, ◌-◌, ◌<◌, ◌≤◌, ◌∷◌, ◌&&◌, [], Some, not};
 ghost use Rattle.std.specs.Prelude.{cond, drop, length, take, true, IfSome, IfNone};
 ghost use Rattle.byte_unit_command.specs.Fields.{EndsFirst, begins_blank as has_blank_first, between_by, blank_fields};
-ghost use Rattle.byte_unit_command.specs.Fields.{fields_by, gap_by, is_blank as is_a_blank, width_by};
+ghost use Rattle.byte_unit_command.specs.Fields.{fields_by, gap_by, is_blank as is_a_blank, columns_by};
 
 use crate::options::Separator;
 use byte_unit_stream::end_of;
@@ -40,7 +40,7 @@ pub(crate) fn columns_in(
     number: u64,
     field: &[u8],
 ) -> usize
-    ensures { result ≡ width_by separator width number field.now }
+    ensures { result ≡ columns_by separator width number field.now }
 {
     match separator {
         Some(Separator::Blanks) if width == 0 => columns_of(number > 1, field),

@@ -11,6 +11,15 @@ use crate::rendered::command::wrong::{ValueError, Wrong};
 /// The most digits after the point that the exact form has: the library takes a greater precision as 28.
 const DECIMAL_PLACES: u16 = 28;
 
+/// The value of `--padding`.
+#[derive(Clone, Copy)]
+pub(crate) struct Padding {
+    /// The least number of bytes of a size; 0 for none.
+    width: u16,
+    /// Whether sizes are aligned to the left.
+    align_left: bool,
+}
+
 /// Returns the options of a call. `fields` is what `field_list::fields_of` returned for the value of `--field`.
 ///
 /// # Errors
@@ -24,7 +33,7 @@ pub fn options_of<'a>(values: &Values<'a>, fields: Option<&'a FieldList>) -> Res
     let form = output_form(values.no_unit, given)?;
     let separator = separator_of(values)?;
     let fields = listed(values, fields)?;
-    let (width, align_left) = padding_of(values.padding)?;
+    let padding = padding_of(values.padding)?;
     let invalid = invalid_of(values.invalid)?;
     let max = limit_of("--max", values.max, binary, kind, values.ignore_case)?;
     let min = limit_of("--min", values.min, binary, kind, values.ignore_case)?;
@@ -47,8 +56,8 @@ pub fn options_of<'a>(values: &Values<'a>, fields: Option<&'a FieldList>) -> Res
             }
         },
         suffix: values.suffix.unwrap_or("").as_bytes(),
-        width,
-        align_left,
+        width: padding.width,
+        align_left: padding.align_left,
         separator,
         fields,
         // Each operand ends with a zero byte, and none is a header.
@@ -106,7 +115,7 @@ fn form_of<'a>(values: &Values<'a>) -> Result<Form, Wrong<'a>> {
         "si" => Ok(Form::Largest(UnitType::Decimal)),
         "iec" => Ok(Form::Largest(UnitType::Binary)),
         "auto" => Ok(Form::Largest(UnitType::Both)),
-        _ => match unit_of(value, values.kind, values.ignore_case) {
+        _ => match unit_named(value, values.kind, values.ignore_case) {
             Ok(unit) => Ok(Form::InUnit(unit)),
             Err(reason) => Err(wrong("--to", value, reason)),
         },
@@ -133,7 +142,7 @@ fn output_form<'a>(no_unit: bool, given: Form) -> Result<Form, Wrong<'a>> {
 
 /// Returns the unit that a value spells. White space alone, which the library parses as the unit without a prefix, is
 /// not a unit here.
-fn unit_of(value: &str, kind: Kind, ignore_case: bool) -> Result<Unit, ValueError> {
+fn unit_named(value: &str, kind: Kind, ignore_case: bool) -> Result<Unit, ValueError> {
     if value.trim().is_empty() {
         return Err(ValueError::Blank);
     }
@@ -190,22 +199,21 @@ fn listed<'a>(values: &Values<'a>, fields: Option<&'a FieldList>) -> Result<&'a 
 /// # Errors
 ///
 /// Returns an error if the value is not a number from 1 to 65535, or its negative.
-fn padding_of(value: Option<&str>) -> Result<(u16, bool), Wrong<'_>> {
+fn padding_of(value: Option<&str>) -> Result<Padding, Wrong<'_>> {
     let Some(value) = value else {
-        // No width.
-        return Ok((0, false));
+        return Ok(Padding { width: 0, align_left: false });
     };
-    match signed_width_of(value) {
+    match signed_width(value) {
         Some(padding) => Ok(padding),
         None => Err(wrong("--padding", value, ValueError::Padding)),
     }
 }
 
 /// Parses a width, and whether a hyphen before it aligns sizes to the left. Returns `None` if the text is neither.
-fn signed_width_of(text: &str) -> Option<(u16, bool)> {
+fn signed_width(text: &str) -> Option<Padding> {
     match text.strip_prefix('-') {
-        Some(digits) => Some((width_of(digits)?, true)),
-        None => Some((width_of(text)?, false)),
+        Some(digits) => Some(Padding { width: width_of(digits)?, align_left: true }),
+        None => Some(Padding { width: width_of(text)?, align_left: false }),
     }
 }
 

@@ -50,12 +50,10 @@ fn before_space(text: &[u8]) -> &[u8] {
 }
 
 /// What is returned in place of a size if there is none. Each number of 2^127 or more says so, since sizes are below
-/// 10^30, so the first bit tells. A number in registers takes fewer instructions than an `Option`.
+/// 10^30, so the first bit tells.
 const NO_SIZE: u128 = 1 << 127;
 
 /// Returns the size that a field represents, or `None` if it is not a size.
-///
-/// The result of [`parse`] is a large value: an accepted field takes fewer instructions if no function has it.
 #[inline(always)]
 pub(crate) fn accepted(options: &Options, field: &[u8]) -> Option<u128> {
     let size = if options.suffix.is_empty() && !options.binary {
@@ -66,8 +64,7 @@ pub(crate) fn accepted(options: &Options, field: &[u8]) -> Option<u128> {
     if size >= NO_SIZE { None } else { Some(size) }
 }
 
-/// Returns the size that a text represents, or `NO_SIZE`. With the kind as a constant in each call, a field takes three
-/// instructions fewer.
+/// Returns the size that a text represents, or `NO_SIZE`.
 ///
 /// Precondition: the options read prefixes as they are.
 #[inline(never)]

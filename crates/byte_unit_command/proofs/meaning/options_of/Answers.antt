@@ -38,25 +38,25 @@ returns-in_err-fields-clause-err c =
     (later _ c.in_ok-separator.ensures.ok (inl c.in_err-fields.ensures.err)))))
 
 -- the width is wrong
-pub returns-in_err-width-clause-err : goal.returns-in_err-width-clause-err
-returns-in_err-width-clause-err c =
-    error-passed (λ _. ⊤) (IsFirstWrong c.args.values.now c.args.fields) _ _ c.from_residual-in_err-width.ensures.1
+pub returns-in_err-padding-clause-err : goal.returns-in_err-padding-clause-err
+returns-in_err-padding-clause-err c =
+    error-passed (λ _. ⊤) (IsFirstWrong c.args.values.now c.args.fields) _ _ c.from_residual-in_err-padding.ensures.1
     (later _ c.in_ok-binary.ensures.ok (later _ c.in_ok-given.ensures.ok (later _ c.in_ok-form.ensures.ok
-    (later _ c.in_ok-separator.ensures.ok (later _ c.in_ok-fields.ensures.ok (inl c.in_err-width.ensures.err))))))
+    (later _ c.in_ok-separator.ensures.ok (later _ c.in_ok-fields.ensures.ok (inl c.in_err-padding.ensures.err))))))
 
 -- the mode for rejected fields is wrong
 pub returns-in_err-invalid-clause-err : goal.returns-in_err-invalid-clause-err
 returns-in_err-invalid-clause-err c =
     error-passed (λ _. ⊤) (IsFirstWrong c.args.values.now c.args.fields) _ _ c.from_residual-in_err-invalid.ensures.1
     (later _ c.in_ok-binary.ensures.ok (later _ c.in_ok-given.ensures.ok (later _ c.in_ok-form.ensures.ok
-    (later _ c.in_ok-separator.ensures.ok (later _ c.in_ok-fields.ensures.ok (later _ c.in_ok-width.ensures.ok (inl c.in_err-invalid.ensures.err)))))))
+    (later _ c.in_ok-separator.ensures.ok (later _ c.in_ok-fields.ensures.ok (later _ c.in_ok-padding.ensures.ok (inl c.in_err-invalid.ensures.err)))))))
 
 -- the maximum is wrong
 pub returns-in_err-max-clause-err : goal.returns-in_err-max-clause-err
 returns-in_err-max-clause-err c =
     error-passed (λ _. ⊤) (IsFirstWrong c.args.values.now c.args.fields) _ _ c.from_residual-in_err-max.ensures.1
     (later _ c.in_ok-binary.ensures.ok (later _ c.in_ok-given.ensures.ok (later _ c.in_ok-form.ensures.ok
-    (later _ c.in_ok-separator.ensures.ok (later _ c.in_ok-fields.ensures.ok (later _ c.in_ok-width.ensures.ok (later _ c.in_ok-invalid.ensures.ok
+    (later _ c.in_ok-separator.ensures.ok (later _ c.in_ok-fields.ensures.ok (later _ c.in_ok-padding.ensures.ok (later _ c.in_ok-invalid.ensures.ok
     (inl c.in_err-max.ensures.err))))))))
 
 -- the minimum is wrong
@@ -64,5 +64,5 @@ pub returns-in_err-min-clause-err : goal.returns-in_err-min-clause-err
 returns-in_err-min-clause-err c =
     error-passed (λ _. ⊤) (IsFirstWrong c.args.values.now c.args.fields) _ _ c.from_residual-in_err-min.ensures.1
     (later _ c.in_ok-binary.ensures.ok (later _ c.in_ok-given.ensures.ok (later _ c.in_ok-form.ensures.ok
-    (later _ c.in_ok-separator.ensures.ok (later _ c.in_ok-fields.ensures.ok (later _ c.in_ok-width.ensures.ok (later _ c.in_ok-invalid.ensures.ok
+    (later _ c.in_ok-separator.ensures.ok (later _ c.in_ok-fields.ensures.ok (later _ c.in_ok-padding.ensures.ok (later _ c.in_ok-invalid.ensures.ok
     (later _ c.in_ok-max.ensures.ok c.in_err-min.ensures.err))))))))

@@ -31,40 +31,40 @@ loop-n-init g c = (
 -- a field before the last was rejected in the mode `abort`, and so the record is; or the call was out of memory
 pub returns-in_err-add_field : goal.returns-in_err-add_field
 returns-in_err-add_field g c =
-    let options = c.args.self.now.place.options.now in
+    let options = c.args.self.now.context.options.now in
     let rest = c.loop-n.rest.now in
-    let place = c.in-Some.n in
+    let n = c.in-Some.n in
     let next = state_of c.add_field.new.self in
     let ends = ends_by _ _ _ _ c.requires c.in-Some.ensures.some in
     error-passed _ (IsEarly 1 (fields_of options c.args.bytes.now) (state_of c.args.self.now) next) _ _
-    c.from_residual.ensures.1 (IsEarly-next c.loop-n.invariant.0 (take place rest ∷ [])
-    (fields_of options (drop (place + length (between_of options)) rest)) ends.2 next _
+    c.from_residual.ensures.1 (IsEarly-next c.loop-n.invariant.0 (take n rest ∷ [])
+    (fields_of options (drop (n + length (between_of options)) rest)) ends.2 next _
     c.in_err-add_field.ensures)
 
 -- the invariant holds after one more field; its parts are in the order of `Invariants.antt`
 pub loop-n-preserved : goal.loop-n-preserved
 loop-n-preserved g c =
     let rest = c.loop-n.rest.now in
-    let place = c.in-Some.n in
+    let n = c.in-Some.n in
     let between = c.between-between in (
-      IsSplitting-step c.loop-n.invariant.0 between.result.now (between.ensures ∙ ap between_by (sym c.requires)) place
+      IsSplitting-step c.loop-n.invariant.0 between.result.now (between.ensures ∙ ap between_by (sym c.requires)) n
           (ends_by _ _ _ _ c.requires c.in-Some.ensures.some) (state_of c.add_field.new.self) c.in_ok-add_field.ensures c.extend_from_slice.new.self.items
-          c.in_ok-extend_from_slice.ensures.items _ (take_rest rest (place + length between.result.now)),
+          c.in_ok-extend_from_slice.ensures.items _ (take_rest rest (n + length between.result.now)),
       AreRangesFrom-step _ _ _ c.loop-n.number c.loop-n.invariant.1 c.ranges_after-ranges-in-Some.ensures,
     )
 
 -- no range is left: the other fields are copied at once
 pub returns-then-is_empty : goal.returns-then-is_empty
 returns-then-is_empty g c =
-    let options = c.args.self.now.place.options.now in
+    let options = c.args.self.now.context.options.now in
     let rest = c.loop-n.rest.now in
-    let place = c.in-Some.n in
+    let n = c.in-Some.n in
     let between = c.between-between in
     let number = c.loop-n.number in
     let stepped = IsSplitting-step c.loop-n.invariant.0 between.result.now
-    (between.ensures ∙ ap between_by (sym c.requires)) place (ends_by _ _ _ _ c.requires c.in-Some.ensures.some)
+    (between.ensures ∙ ap between_by (sym c.requires)) n (ends_by _ _ _ _ c.requires c.in-Some.ensures.some)
     (state_of c.add_field.new.self) c.in_ok-add_field.ensures c.extend_from_slice.new.self.items
-    c.in_ok-extend_from_slice.ensures.items _ (take_rest rest (place + length between.result.now)) in
+    c.in_ok-extend_from_slice.ensures.items _ (take_rest rest (n + length between.result.now)) in
     let ranges = c.ranges_after-ranges-in-Some.result.now in
     let none = nil_from_length ranges (eqb-true (length ranges) 0 (sym c.if-is_empty.ensures)) in
     let past : (later : ℕ) → number + 1 ≤ later → ¬ IsChosenField options.fields.now later =

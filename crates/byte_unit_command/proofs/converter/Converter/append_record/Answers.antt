@@ -16,11 +16,11 @@ use Rattle.byte_unit_command.proofs.converter.Converter.append_record.Goals as g
 
 -- a run with this number of the last record
 abbrev numbered : Progress RunState → ℕ → Progress RunState
-numbered old number = record old { state = record old.state { place = record old.state.place { number = number } } }
+numbered old number = record old { state = record old.state { context = record old.state.context { number = number } } }
 
 -- a header record was copied
 header-copied : (bytes out : List ℕ) (old between : Progress RunState) (number : ℕ)
-    → number ≡ (at_next old).state.place.number → out ≡ old.out ++ bytes
+    → number ≡ (at_next old).state.context.number → out ≡ old.out ++ bytes
     → between ≡ record (numbered old number) {
       state = record (numbered old number).state
           { header = old.state.header - 1 };
@@ -49,7 +49,7 @@ returns g c =
           w.in_ok-extend_from_slice.ensures.items (ap state_of w.self-is))
       | else-self-gt0+in_ok-add_fields w ↦
           let none : old.state.header ≡ 0 = omega (arith, w.if-self-gt0.false) in
-          let fields = fields_of old.state.place.options bytes in
+          let fields = fields_of old.state.context.options bytes in
           Adds-fields bytes old between out out_is none
           (subst (AddsFields 1 fields (at_next old)) (sym (ap state_of w.self-is))
           (subst (λ number. AddsFields 1 fields (numbered old number) (state_of w.add_fields.new.self)) number.ensures
@@ -65,7 +65,7 @@ returns-in_err-add_fields g c =
     let none : old.state.header ≡ 0 = omega (arith, c.if-self-gt0.false) in
     error-passed _ (IsEarlyAt bytes old new) _ _ c.from_residual-in_err-add_fields.ensures.1
     (IsEarlyAt-fields bytes old new _ none
-    (subst (λ number. IsEarly 1 (fields_of old.state.place.options bytes) (numbered old number) new
+    (subst (λ number. IsEarly 1 (fields_of old.state.context.options bytes) (numbered old number) new
     c.in_err-add_fields.field-0.0) c.saturating_add-self.ensures c.in_err-add_fields.ensures))
 
 -- the end byte could not be appended
@@ -84,7 +84,7 @@ returns-in_err-extend_from_slice-2 g c =
           Keeps-more (header-copied bytes w.extend_from_slice.new.self.items old between number.result number.ensures
           w.in_ok-extend_from_slice.ensures.items (ap state_of w.self-is)) out begins
       | else-self-gt0+in_ok-add_fields w ↦
-          Keeps-more (subst (AddsFields 1 (fields_of old.state.place.options bytes) (numbered old number.result))
+          Keeps-more (subst (AddsFields 1 (fields_of old.state.context.options bytes) (numbered old number.result))
           (sym (ap state_of w.self-is)) w.in_ok-add_fields.ensures).appends out begins
     ] in
     error-passed _ (IsEarlyAt bytes old new) _ Memory c.from_residual-in_err-extend_from_slice-2.ensures.1
