@@ -1,9 +1,9 @@
 -- Lemmas: what is appended for fields and for a record.
-use Rattle.std.proofs.Common.{◌≡◌, ℕ, suc, ◌-◌, List, [], ◌∷◌, ◌++◌, Err, Result, IsErrAnd}
+use Rattle.std.proofs.Common.{◌≡◌, ℕ, suc, ◌-◌, List, [], ◌∷◌, ◌++◌, Result, IsErrAnd}
 use Rattle.std.specs.Prelude.{⊤}
-use Rattle.std.proofs.Common.{refl, sym, ap, subst, ◌∙◌, arith, append_assoc, append-nil, inl, inr}
-use Rattle.byte_unit_command.specs.CallEnds.{AddsFields, Appends, Ends, IsEarly, IsEarlyAt, Keeps}
-use Rattle.byte_unit_command.specs.Converted.{IsRejected, converting}
+use Rattle.std.proofs.Common.{refl, sym, ap, subst, ◌∙◌, arith, append_assoc, append-nil, inl}
+use Rattle.byte_unit_command.specs.CallEnds.{AddsFields, Appends, Ends, IsEarly, Keeps}
+use Rattle.byte_unit_command.specs.Converted.{converting}
 use Rattle.byte_unit_command.specs.Field.{Found}
 use Rattle.byte_unit_command.specs.Fields.{between_of, fields_of}
 use Rattle.byte_unit_command.specs.Output.{IsField, IsRecord, Output, Passes, copied, messages_in, other, together}
@@ -11,14 +11,11 @@ use Rattle.byte_unit_command.specs.Ranges.{IsChosenField}
 use Rattle.byte_unit_command.specs.State.{RunState, next_context}
 use Rattle.byte_unit_command.specs.Sums.{Counts}
 use Rattle.byte_unit_command.specs.declared.error.EndReason.{EndReason}
-use Rattle.byte_unit_command.specs.declared.error.EndReason.TheVariants.{Rejected}
 use Rattle.byte_unit_command.proofs.Results.{error-passed}
 use Rattle.byte_unit_command.proofs.Tallies.{Counts-append, Counts-none}
-use Rattle.byte_unit_stream.specs.Beginnings.{IsBeginningOf}
-use Rattle.byte_unit_stream.specs.Steps.{Adds, IsStep, Progress}
+use Rattle.byte_unit_stream.specs.Steps.{Adds, Progress}
 use Rattle.byte_unit_stream.specs.declared.run.RunError.{RunError}
-use Rattle.byte_unit_stream.specs.declared.run.RunError.TheVariants.{Memory, Ended}
-use Rattle.byte_unit_stream.proofs.Beginnings.{IsBeginningOf-trans}
+use Rattle.byte_unit_stream.specs.declared.run.RunError.TheVariants.{Memory}
 
 -- nothing is appended
 pub Appends-none : (old : Progress RunState) → Appends (copied []) old old
@@ -137,15 +134,6 @@ module _ (bytes : List ℕ) (old between : Progress RunState) (out : List ℕ)
       (adds.outputs, adds.are_fields, refl)) adds.passes
       (subst (λ header. Appends whole (At header) between) left adds.appends)
 
--- what was appended is kept, if nothing but a beginning of more output is appended
-pub Keeps-more : {output : Output} {old between : Progress RunState} → Appends output old between → (out : List ℕ)
-    → IsBeginningOf between.out out → Keeps old (record between { out = out })
-Keeps-more {output} {old} {between} appends out more = (
-  IsBeginningOf-trans old.out between.out out (output.text, appends.out_is) more,
-  (output.messages, appends.messages_are),
-  ap (λ (state : RunState). state.context.options) appends.state_is,
-)
-
 -- a call ends early that is out of memory
 pub memory-passed : (number : ℕ) (fields : List (List ℕ)) (old new : Progress RunState)
     (result : Result ⊤ (RunError EndReason)) → IsErrAnd result (λ error. error ≡ Memory) → Keeps old new
@@ -153,32 +141,3 @@ pub memory-passed : (number : ℕ) (fields : List (List ℕ)) (old new : Progres
 memory-passed number fields old new result passed keeps =
     error-passed (λ _. AddsFields number fields old new) (IsEarly number fields old new) result Memory passed
     (record { keeps = keeps; why = inl refl })
-
--- if the fields of a record end it early, the record does
-pub IsEarlyAt-fields : (bytes : List ℕ) (old new : Progress RunState) (error : RunError EndReason) → old.state.header ≡ 0
-    → IsEarly 1 (fields_of old.state.context.options bytes) (at_next old) new error → IsEarlyAt bytes old new error
-IsEarlyAt-fields bytes old new error none early = record {
-  keeps = early.keeps;
-  why = elim early.why [
-    | inl memory ↦ inl memory
-    | inr (is, aborts) ↦ inr (
-      is,
-      (
-        aborts.messages,
-        record { reason_is = refl; mode = aborts.mode; no_header = none; are_messages = aborts.are_messages },
-        aborts.messages_are,
-      ),
-    )
-  ];
-}
-
--- a record with a field that is rejected in the mode `abort` ends the run, and appends nothing but messages
-pub IsStep-ended : (bytes : List ℕ) (old new : Progress RunState) (reason : EndReason)
-    → IsEarlyAt bytes old new (Ended reason) → (out : List ℕ) → out ≡ old.out
-    → IsStep converting bytes old (record new { out = out }) (Err (Ended reason))
-IsStep-ended bytes old new reason early out out_is = elim early.why [
-  | inl memory ↦ absurd (let never : ⊥ = cc in never)
-  | inr (is, (own, rejected, messages_are)) ↦
-      let reason_is : reason ≡ Rejected = cc in
-      (own, subst (λ reason. IsRejected old.state bytes reason own) (sym reason_is) rejected, out_is, messages_are)
-]

@@ -157,19 +157,14 @@ impl<'a, A: Allocator> Steps for Converter<'a, A> {
         let told = self.notices.messages.len();
         match self.append_record(&bytes[..len]) {
             Ok(()) => Ok(()),
-            Err(RunError::Ended(reason)) => {
+            Err(error) => {
                 self.waiting.truncate(written);
-                // The messages stay: the last is the one about the rejected field.
-                Err(RunError::Ended(reason))
+                // Otherwise the messages stay: the last is the one about the rejected field.
+                if error == RunError::Memory {
+                    self.notices.messages.truncate(told);
+                }
+                Err(error)
             }
-            Err(RunError::Memory) => {
-                self.waiting.truncate(written);
-                self.notices.messages.truncate(told);
-                Err(RunError::Memory)
-            }
-            // Never: nothing is read or written.
-            Err(RunError::Read) => Err(RunError::Read),
-            Err(RunError::Write) => Err(RunError::Write),
         }
     }
 
