@@ -89,7 +89,9 @@ at_next old = record old { state = record old.state { context = next_context old
 
 -- the same, with one header record less to come
 abbrev pub started : Progress RunState → Progress RunState
-started old = record old { state = record old.state { context = next_context old.state.context; header = old.state.header - 1 } }
+started old = record old {
+  state = record old.state { context = next_context old.state.context; header = old.state.header - 1 };
+}
 
 -- one record is converted: a header record or another one; `mark` is its end byte
 module _ (bytes : List ℕ) (old between : Progress RunState) (out : List ℕ)
@@ -119,7 +121,8 @@ module _ (bytes : List ℕ) (old between : Progress RunState) (out : List ℕ)
   pub Adds-header : (left : ℕ) → old.state.header ≡ suc left → Appends (copied bytes) (started old) between
       → Adds converting bytes old (record between { out = out })
   Adds-header left some = Adds-record (copied bytes)
-      (subst (λ header. IsRecord (next_context old.state.context) header bytes (copied bytes)) (sym some) refl) (λ mode. refl)
+      (subst (λ header. IsRecord (next_context old.state.context) header bytes (copied bytes)) (sym some) refl)
+      (λ mode. refl)
 
   -- any other record is converted if its fields were added
   pub Adds-fields : old.state.header ≡ 0

@@ -23,9 +23,10 @@ copied text = record { text = text; found = []; messages = [] }
 -- what the field with this number gives: a field that is not chosen is copied; a size is replaced by its text, with
 -- messages if it is beyond a limit; a field that is not a size is copied too, with the message about it
 pub data IsField (context : Context) (number : ℕ) (field : List ℕ) (output : Output) : Type 0 where
-  other : ¬ IsChosenField context.options.fields.now number → output ≡ copied field → IsField context number field output
-  size : (n : ℕ) (text messages : List ℕ) → IsChosenField context.options.fields.now number → IsSize context.options field n
-      → IsPlaced context.options number field n text → AreLimitMessages context number field n messages
+  other : ¬ IsChosenField context.options.fields.now number → output ≡ copied field
+      → IsField context number field output
+  size : (n : ℕ) (text messages : List ℕ) → IsChosenField context.options.fields.now number
+      → IsSize context.options field n → IsPlaced context.options number field n text → AreLimitMessages context number field n messages
       → output ≡ record { text = text; found = Some n ∷ []; messages = messages } → IsField context number field output
   rejected : (messages : List ℕ) → IsChosenField context.options.fields.now number → IsNoSize context.options field
       → IsRejectMessage context number field messages

@@ -95,8 +95,8 @@ impl<'a, A: Allocator> Converter<'a, A> {
         }
     }
 
-    /// Does what [`add_fields`](Converter::add_fields) does, for fields that are separated. After the last chosen field,
-    /// copies the rest at once.
+    /// Does what [`add_fields`](Converter::add_fields) does, for fields that are separated. After the last chosen
+    /// field, copies the rest at once.
     ///
     /// Precondition (proved at every call): `separator` is that of the options.
     #[inline(always)]

@@ -49,14 +49,16 @@ pub returns-in_err-invalid-clause-err : goal.returns-in_err-invalid-clause-err
 returns-in_err-invalid-clause-err c =
     error-passed (λ _. ⊤) (IsFirstWrong c.args.values.now c.args.fields) _ _ c.from_residual-in_err-invalid.ensures.1
     (later _ c.in_ok-binary.ensures.ok (later _ c.in_ok-given.ensures.ok (later _ c.in_ok-form.ensures.ok
-    (later _ c.in_ok-separator.ensures.ok (later _ c.in_ok-fields.ensures.ok (later _ c.in_ok-padding.ensures.ok (inl c.in_err-invalid.ensures.err)))))))
+    (later _ c.in_ok-separator.ensures.ok (later _ c.in_ok-fields.ensures.ok (later _ c.in_ok-padding.ensures.ok
+    (inl c.in_err-invalid.ensures.err)))))))
 
 -- the maximum is wrong
 pub returns-in_err-max-clause-err : goal.returns-in_err-max-clause-err
 returns-in_err-max-clause-err c =
     error-passed (λ _. ⊤) (IsFirstWrong c.args.values.now c.args.fields) _ _ c.from_residual-in_err-max.ensures.1
     (later _ c.in_ok-binary.ensures.ok (later _ c.in_ok-given.ensures.ok (later _ c.in_ok-form.ensures.ok
-    (later _ c.in_ok-separator.ensures.ok (later _ c.in_ok-fields.ensures.ok (later _ c.in_ok-padding.ensures.ok (later _ c.in_ok-invalid.ensures.ok
+    (later _ c.in_ok-separator.ensures.ok (later _ c.in_ok-fields.ensures.ok (later _ c.in_ok-padding.ensures.ok
+    (later _ c.in_ok-invalid.ensures.ok
     (inl c.in_err-max.ensures.err))))))))
 
 -- the minimum is wrong
@@ -64,5 +66,6 @@ pub returns-in_err-min-clause-err : goal.returns-in_err-min-clause-err
 returns-in_err-min-clause-err c =
     error-passed (λ _. ⊤) (IsFirstWrong c.args.values.now c.args.fields) _ _ c.from_residual-in_err-min.ensures.1
     (later _ c.in_ok-binary.ensures.ok (later _ c.in_ok-given.ensures.ok (later _ c.in_ok-form.ensures.ok
-    (later _ c.in_ok-separator.ensures.ok (later _ c.in_ok-fields.ensures.ok (later _ c.in_ok-padding.ensures.ok (later _ c.in_ok-invalid.ensures.ok
+    (later _ c.in_ok-separator.ensures.ok (later _ c.in_ok-fields.ensures.ok (later _ c.in_ok-padding.ensures.ok
+    (later _ c.in_ok-invalid.ensures.ok
     (later _ c.in_ok-max.ensures.ok c.in_err-min.ensures.err))))))))

@@ -48,8 +48,8 @@ loop-n-preserved g c =
     let n = c.in-Some.n in
     let between = c.between-between in (
       IsSplitting-step c.loop-n.invariant.0 between.result.now (between.ensures ∙ ap between_by (sym c.requires)) n
-          (ends_by _ _ _ _ c.requires c.in-Some.ensures.some) (state_of c.add_field.new.self) c.in_ok-add_field.ensures c.extend_from_slice.new.self.items
-          c.in_ok-extend_from_slice.ensures.items _ (take_rest rest (n + length between.result.now)),
+          (ends_by _ _ _ _ c.requires c.in-Some.ensures.some) (state_of c.add_field.new.self) c.in_ok-add_field.ensures
+          c.extend_from_slice.new.self.items c.in_ok-extend_from_slice.ensures.items _ (take_rest rest (n + length between.result.now)),
       AreRangesFrom-step _ _ _ c.loop-n.number c.loop-n.invariant.1 c.ranges_after-ranges-in-Some.ensures,
     )
 
