@@ -26,7 +26,8 @@ pub data IsField (context : Context) (number : ℕ) (field : List ℕ) (output :
   other : ¬ IsChosenField context.options.fields.now number → output ≡ copied field
       → IsField context number field output
   size : (n : ℕ) (text messages : List ℕ) → IsChosenField context.options.fields.now number
-      → IsSize context.options field n → IsPlaced context.options number field n text → AreLimitMessages context number field n messages
+      → IsSize context.options field n → IsPlaced context.options number field n text
+      → AreLimitMessages context number field n messages
       → output ≡ record { text = text; found = Some n ∷ []; messages = messages } → IsField context number field output
   rejected : (messages : List ℕ) → IsChosenField context.options.fields.now number → IsNoSize context.options field
       → IsRejectMessage context number field messages
