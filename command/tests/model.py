@@ -91,11 +91,16 @@ def read(data, options):
     return size_of(data, options.kind, options.ignore_case, binary=is_binary(options))
 
 
+def why_not(data, size):
+    """Returns why bytes are no size, and where."""
+    return located(data, size).removeprefix("the text is ")
+
+
 def limit(text, options):
     """Returns the size of `--max` or `--min`."""
     size = read(text.encode(), options)  # Without a suffix.
     if isinstance(size, Rejected):
-        raise Wrong(size.message)
+        raise Wrong(why_not(text.encode(), size))
     return size
 
 
@@ -123,12 +128,12 @@ OPTIONS = {
     "from": Option("", "auto", lambda text, options: checked(
         text, text in ("auto", "si", "iec", "iec-i"), "not auto, si, iec or iec-i"), None),
     "to": Option("", lambda options: "iec" if options.human_readable else "exact", form, None),
+    "precision": Option("p", lambda options: 1 if options.human_readable else None, lambda text, options: checked(
+        int(text), int(text) <= 28 or options.to != "exact", "above 28 in the form exact", False), None),
     "no-unit": Option("", False, lambda text, options: checked(
         True, options.to == "plain" or options.to not in FORMS,
         "needs --to=plain or --to with a unit, such as --to=MiB", False)),
     "suffix": Option("", "", lambda text, options: text, None),
-    "precision": Option("p", lambda options: 1 if options.human_readable else None, lambda text, options: checked(
-        int(text), int(text) <= 28 or options.to != "exact", "above 28 in the form exact", False), None),
     "delimiter": Option("d", None, lambda text, options: checked(
         text.replace("\\t", "\t").encode() or None, text == "\\t" or len(text.encode()) <= 1,
         "not one character of one byte"), None),
@@ -214,8 +219,7 @@ class Run:
         size = read(text, options)
         if isinstance(size, Rejected):
             if options.invalid != "ignore":
-                why = located(text, size).removeprefix("the text is ")
-                self.tell(f"{named}: {why}", 0 if options.invalid == "warn" else 2)
+                self.tell(f"{named}: {why_not(text, size)}", 0 if options.invalid == "warn" else 2)
             if options.invalid == "abort":
                 raise Aborted
             return data

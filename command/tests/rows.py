@@ -291,13 +291,31 @@ WRONG_VALUES = [
      told("--to: 'EXACT'", "not a form or a unit: " + unit("X", "('B' or 'b' or no character is expected)"))),
     ("--to=iec-i", told("--to: 'iec-i'", "not a form or a unit: " + unit("i"))),
     (["--to=\x1b[31mKB", "1"], told("--to: '\\u{1b}[31mKB'", "not a form or a unit: " + unit("\\u{1b}"))),
-    (["--min=x", "--max=y", "--to=z q"],
+    (["--to=z q"],
      told("--to: 'z q'", "not a form or a unit: " + unit(" ", "('B' or 'b' or no character is expected)"))),
-    ("--max=x", told("--max: 'x'", digit("x"))),
-    ("--max=", told("--max: ''", BLANK)),
-    (["--max=1,5 GB"], told("--max: '1,5 GB'", unit(","))),
-    (["--min=1\x9b"], told("--min: '1\\u{9b}'", unit("\\u{9b}"))),
+    ("--max=x", told("--max: 'x'", digit("x"), 1)),
+    ("--max=", told("--max: ''", BLANK, END)),
+    ("--max=1.", told("--max: '1.'", digit("."), END)),
+    (["--max=1,5 GB"], told("--max: '1,5 GB'", unit(","), 2)),
+    (["--min=1\x9b"], told("--min: '1\\u{9b}'", unit("\\u{9b}"), 2)),
+    (["--min=\u30001\u20ac "], told("--min: '\\u{3000}1\u20ac '", unit("\u20ac"), 3)),
+    ("--bits --from=iec --min=1KiBx", told("--min: '1KiBx'", unit("x", "('i' or no character is expected)"), 5)),
     ("--max=1000000000000RB", told("--max: '1000000000000RB'", "the value 1000000000000 exceeds the valid range")),
+]
+
+# Two options that are wrong, the later one first: the earlier one is told, in the order of `options_of`.
+TWO_WRONG = [
+    ("--to=x --from=K", told("--from: 'K'", "not auto, si, iec or iec-i")),
+    ("-p 29 --to=", told("--to: ''", "not a form or a unit")),
+    ("--no-unit -p 29", told("--precision", "above 28 in the form exact")),
+    ("-d ab --no-unit", told("--no-unit", "needs --to=plain or --to with a unit, such as --to=MiB")),
+    ("--field=0 -d ab", told("--delimiter: 'ab'", "not one character of one byte")),
+    ("--field=0", told("--field: '0'", NEEDS)),
+    ("--padding=0 --field=2", told("--field: '2'", NEEDS)),
+    ("--padding=0 -d , --field=0", told("--field: '0'", "not a list of fields")),
+    ("--invalid=x --padding=0", told("--padding: '0'", WIDTH)),
+    ("--max=x --invalid=y", told("--invalid: 'y'", "not abort, fail, warn or ignore")),
+    ("--min=x --max=y", told("--max: 'y'", digit("y"), 1)),
 ]
 
 WRONG_WORDS = [
@@ -328,7 +346,7 @@ def row(words, data=b"", written=b"", status=0, messages=""):
 # Each call with its result: those that the model has too, and the others.
 MODELLED = [row(*each) for each in [
     *SIZES, *HEADERS_AND_TOTALS, *LIMITS, *FORMS, *PREFIXES, *REPEATED, *SUFFIXES, *FIELDS, *BETWEEN_BLANKS, *QUOTED]]
-MODELLED += [row(words, b"", b"", 2, message) for words, message in WRONG_VALUES]
+MODELLED += [row(words, b"", b"", 2, message) for words, message in WRONG_VALUES + TWO_WRONG]
 OTHERS = [row(words, b"", b"", 2, message) for words, message in WRONG_WORDS]
 LINES = b"1.5 KB\n" * 15_000
 # More than 2^24 bytes: the wrong program "out of memory for 16 MB" of test_wrong.py fails for no fewer.

@@ -10,7 +10,7 @@ use byte_unit_command::options::{Options, Unit};
 use byte_unit_command::run::run;
 use byte_unit_command::streams::Streams;
 use byte_unit_command::values::values_of;
-use byte_unit_command::wrong::{ValueError, Wrong, escaped_lines, with_marks};
+use byte_unit_command::wrong::{Wrong, escaped_lines, with_marks};
 use byte_unit_stream::{Reading, Writing};
 use clap::ArgMatches;
 use clap::error::ErrorKind;
@@ -204,17 +204,9 @@ fn answer(rt: &HostRuntime) -> io::Result<u8> {
         Ok(matches) => matches,
         Err(error) => return print_or_report(rt, words.as_slice(), &error),
     };
-    let list = matches.get_str("field");
-    let Some(fields) = fields_of(rt.alloc(), list)? else {
-        let value = list.unwrap_or("");
-        let wrong = Wrong {
-            option: "--field",
-            value: Some(value),
-            reason: ValueError::Fields,
-        };
-        return Ok(report(rt, &wrong)?);
-    };
-    match options_of(&values_of(&matches), &fields) {
+    let values = values_of(&matches);
+    let fields = fields_of(rt.alloc(), values.field)?;
+    match options_of(&values, fields.as_ref()) {
         Ok(options) => Ok(convert_call(rt, &matches, &options)?),
         Err(wrong) => Ok(report(rt, &wrong)?),
     }

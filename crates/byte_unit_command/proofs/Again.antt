@@ -15,7 +15,7 @@ use Rattle.byte_unit.specs.declared.Kind.{Kind}
 use Rattle.byte_unit.specs.declared.Sign.TheVariants.{Unset, Plus}
 use Rattle.byte_unit_format.proofs.ReadBack.{accepted_as, digits_accepted, form_is_size}
 use Rattle.byte_unit_format.proofs.WrittenForms.{recovered_unit_unique}
-use Rattle.byte_unit_command.specs.Field.{ignores_case, without_suffix}
+use Rattle.byte_unit_command.specs.Field.{without_suffix}
 use Rattle.byte_unit_command.specs.Laws.{IsLossless, FormattedSizesAreRead, ExactTwiceIsOnce}
 use Rattle.byte_unit_command.specs.Prefixes.{IsAcceptedBy}
 use Rattle.byte_unit_command.specs.Formatted.{IsExactText, IsFormText, exact_spec, padded}
@@ -93,7 +93,7 @@ formatted_is_read exact digits =
     let is : without_suffix others.suffix.now text ≡ form =
     ap (λ suffix. without_suffix suffix text) same_suffix
     ∙ (ap (without_suffix suffix) formatted ∙ without_it form suffix) in
-    let ignore_case = ignores_case others.kind others.ignore_case in
+    let ignore_case = others.ignore_case in
     let at = form_is_read exact digits options.kind options.precision size ignore_case below options.form others.binary
     options.binary form lossless prefixes is_form in
     let Accepts : List ℕ → Type 0 = λ text. IsAcceptedBy others.binary options.kind ignore_case text size in
@@ -128,10 +128,9 @@ exact_again formatted_read one_form =
     let kind = options.kind in
     let binary = options.binary in
     let precision = options.precision in
-    let ignore_case = ignores_case kind options.ignore_case in
     let lossless : IsLossless options.form = subst IsLossless (sym exact) tt in
     let accepted = formatted_read options options size text below lossless no_width refl refl (λ yes. yes) formatted in
-    let answer = sizes_or_not binary kind ignore_case (without_suffix options.suffix.now text) in
+    let answer = sizes_or_not binary kind options.ignore_case (without_suffix options.suffix.now text) in
     let same : again ≡ size = answer.one_meaning again size read accepted in
     let form = formatted.0 in
     let is_form : IsExactText binary kind precision size form =

@@ -1,30 +1,27 @@
 -- Lemmas: what is appended for fields and for a record.
-use Rattle.std.proofs.Common.{◌≡◌, ℕ, suc, ◌-◌, List, [], ◌∷◌, ◌++◌, Err, Result, IsErrAnd}
+use Rattle.std.proofs.Common.{◌≡◌, ℕ, suc, ◌-◌, List, [], ◌∷◌, ◌++◌, Result, IsErrAnd}
 use Rattle.std.specs.Prelude.{⊤}
-use Rattle.std.proofs.Common.{refl, sym, ap, subst, ◌∙◌, arith, append_assoc, append-nil, inl, inr}
-use Rattle.byte_unit_command.specs.CallEnds.{AddsFields, Appends, Ends, IsEarly, IsEarlyAt, Keeps}
-use Rattle.byte_unit_command.specs.Converted.{IsRejected, converting}
+use Rattle.std.proofs.Common.{refl, sym, ap, subst, ◌∙◌, arith, append_assoc, append-nil, inl}
+use Rattle.byte_unit_command.specs.CallEnds.{AddsFields, Appends, Ends, IsEarly, Keeps}
+use Rattle.byte_unit_command.specs.Converted.{converting}
 use Rattle.byte_unit_command.specs.Field.{Found}
 use Rattle.byte_unit_command.specs.Fields.{between_of, fields_of}
 use Rattle.byte_unit_command.specs.Output.{IsField, IsRecord, Output, Passes, copied, messages_in, other, together}
 use Rattle.byte_unit_command.specs.Ranges.{IsChosenField}
-use Rattle.byte_unit_command.specs.State.{RunState, next_place}
+use Rattle.byte_unit_command.specs.State.{RunState, next_context}
 use Rattle.byte_unit_command.specs.Sums.{Counts}
-use Rattle.byte_unit_command.specs.declared.error.Reason.{Reason}
-use Rattle.byte_unit_command.specs.declared.error.Reason.TheVariants.{Rejected}
+use Rattle.byte_unit_command.specs.declared.error.EndReason.{EndReason}
 use Rattle.byte_unit_command.proofs.Results.{error-passed}
 use Rattle.byte_unit_command.proofs.Tallies.{Counts-append, Counts-none}
-use Rattle.byte_unit_stream.specs.Beginnings.{IsBeginningOf}
-use Rattle.byte_unit_stream.specs.Steps.{Adds, IsStep, Progress}
+use Rattle.byte_unit_stream.specs.Steps.{Adds, Progress}
 use Rattle.byte_unit_stream.specs.declared.run.RunError.{RunError}
-use Rattle.byte_unit_stream.specs.declared.run.RunError.TheVariants.{Memory, Ended}
-use Rattle.byte_unit_stream.proofs.Beginnings.{IsBeginningOf-trans}
+use Rattle.byte_unit_stream.specs.declared.run.RunError.TheVariants.{Memory}
 
 -- nothing is appended
 pub Appends-none : (old : Progress RunState) → Appends (copied []) old old
 Appends-none old = record {
   state_is = refl;
-  counts = Counts-none old.state.place.options old.state.tally;
+  counts = Counts-none old.state.context.options old.state.tally;
   out_is = sym (append-nil old.out);
   messages_are = sym (append-nil old.messages);
 }
@@ -38,8 +35,8 @@ pub Appends-then : {first second : Output} {old between new : Progress RunState}
     }) old new
 Appends-then {first} {second} {old} {between} {new} begun ended = record {
   state_is = ended.state_is ∙ ap (λ (state : RunState). record state { tally = new.state.tally }) begun.state_is;
-  counts = Counts-append old.state.place.options old.state.tally between.state.tally new.state.tally first.found
-      second.found begun.counts (subst (λ (state : RunState). Counts state.place.options between.state.tally second.found
+  counts = Counts-append old.state.context.options old.state.tally between.state.tally new.state.tally first.found
+      second.found begun.counts (subst (λ (state : RunState). Counts state.context.options between.state.tally second.found
       new.state.tally) begun.state_is ended.counts);
   out_is = ended.out_is ∙ ap (λ out. out ++ second.text) begun.out_is ∙ append_assoc old.out first.text second.text;
   messages_are = ended.messages_are ∙ ap (λ messages. messages ++ second.messages) begun.messages_are
@@ -67,10 +64,10 @@ together-one between output =
 
 -- one field was added
 pub AddsFields-one : (number : ℕ) (field : List ℕ) (old new : Progress RunState) (output : Output)
-    → IsField old.state.place number field output → Passes old.state.place.options output.found → Appends output old new
+    → IsField old.state.context number field output → Passes old.state.context.options output.found → Appends output old new
     → AddsFields number (field ∷ []) old new
 AddsFields-one number field old new output is passes appends =
-    let options = old.state.place.options in
+    let options = old.state.context.options in
     let one = sym (together-one (between_of options) output) in record {
       outputs = output ∷ [];
       are_fields = (is, tt);
@@ -80,7 +77,7 @@ AddsFields-one number field old new output is passes appends =
 
 -- a field that is not chosen was copied
 pub AddsFields-other : (number : ℕ) (field : List ℕ) (old : Progress RunState) (out : List ℕ)
-    → ¬ IsChosenField old.state.place.options.fields.now number → out ≡ old.out ++ field
+    → ¬ IsChosenField old.state.context.options.fields.now number → out ≡ old.out ++ field
     → AddsFields number (field ∷ []) old (record old { out = out })
 AddsFields-other number field old out not_chosen out_is =
     AddsFields-one number field old (record old { out = out }) (copied field) (other not_chosen refl) (λ mode. refl)
@@ -88,21 +85,23 @@ AddsFields-other number field old out not_chosen out_is =
 
 -- the run at the next record
 abbrev pub at_next : Progress RunState → Progress RunState
-at_next old = record old { state = record old.state { place = next_place old.state.place } }
+at_next old = record old { state = record old.state { context = next_context old.state.context } }
 
 -- the same, with one header record less to come
 abbrev pub started : Progress RunState → Progress RunState
-started old = record old { state = record old.state { place = next_place old.state.place; header = old.state.header - 1 } }
+started old = record old {
+  state = record old.state { context = next_context old.state.context; header = old.state.header - 1 };
+}
 
 -- one record is converted: a header record or another one; `mark` is its end byte
 module _ (bytes : List ℕ) (old between : Progress RunState) (out : List ℕ)
-    (out_is : out ≡ between.out ++ old.state.place.options.output_end ∷ []) where
+    (out_is : out ≡ between.out ++ old.state.context.options.output_end ∷ []) where
   -- a record is converted if what it gives was appended, and then its end byte
-  Adds-record : (output : Output) → IsRecord (next_place old.state.place) old.state.header bytes output
-      → Passes old.state.place.options output.found → Appends output (started old) between
+  Adds-record : (output : Output) → IsRecord (next_context old.state.context) old.state.header bytes output
+      → Passes old.state.context.options output.found → Appends output (started old) between
       → Adds converting bytes old (record between { out = out })
   Adds-record output is_record passes appends =
-      let mark = old.state.place.options.output_end ∷ [] in record {
+      let mark = old.state.context.options.output_end ∷ [] in record {
         out = output.text ++ mark;
         messages = output.messages;
         step = record {
@@ -122,63 +121,26 @@ module _ (bytes : List ℕ) (old between : Progress RunState) (out : List ℕ)
   pub Adds-header : (left : ℕ) → old.state.header ≡ suc left → Appends (copied bytes) (started old) between
       → Adds converting bytes old (record between { out = out })
   Adds-header left some = Adds-record (copied bytes)
-      (subst (λ header. IsRecord (next_place old.state.place) header bytes (copied bytes)) (sym some) refl) (λ mode. refl)
+      (subst (λ header. IsRecord (next_context old.state.context) header bytes (copied bytes)) (sym some) refl)
+      (λ mode. refl)
 
   -- any other record is converted if its fields were added
   pub Adds-fields : old.state.header ≡ 0
-      → AddsFields 1 (fields_of old.state.place.options bytes) (at_next old) between
+      → AddsFields 1 (fields_of old.state.context.options bytes) (at_next old) between
       → Adds converting bytes old (record between { out = out })
   Adds-fields none adds =
-      let whole = together (between_of old.state.place.options) adds.outputs in
+      let whole = together (between_of old.state.context.options) adds.outputs in
       let left : old.state.header ≡ old.state.header - 1 = omega (arith, none) in
       let At : ℕ → Progress RunState = λ header. record old
-      { state = record old.state { place = next_place old.state.place; header = header } } in
-      Adds-record whole (subst (λ header. IsRecord (next_place old.state.place) header bytes whole) (sym none)
+      { state = record old.state { context = next_context old.state.context; header = header } } in
+      Adds-record whole (subst (λ header. IsRecord (next_context old.state.context) header bytes whole) (sym none)
       (adds.outputs, adds.are_fields, refl)) adds.passes
       (subst (λ header. Appends whole (At header) between) left adds.appends)
 
--- what was appended is kept, if nothing but a beginning of more output is appended
-pub Keeps-more : {output : Output} {old between : Progress RunState} → Appends output old between → (out : List ℕ)
-    → IsBeginningOf between.out out → Keeps old (record between { out = out })
-Keeps-more {output} {old} {between} appends out more = (
-  IsBeginningOf-trans old.out between.out out (output.text, appends.out_is) more,
-  (output.messages, appends.messages_are),
-  ap (λ (state : RunState). state.place.options) appends.state_is,
-)
-
 -- a call ends early that is out of memory
 pub memory-passed : (number : ℕ) (fields : List (List ℕ)) (old new : Progress RunState)
-    (result : Result ⊤ (RunError Reason)) → IsErrAnd result (λ error. error ≡ Memory) → Keeps old new
+    (result : Result ⊤ (RunError EndReason)) → IsErrAnd result (λ error. error ≡ Memory) → Keeps old new
     → Ends number fields old new result
 memory-passed number fields old new result passed keeps =
     error-passed (λ _. AddsFields number fields old new) (IsEarly number fields old new) result Memory passed
     (record { keeps = keeps; why = inl refl })
-
--- if the fields of a record end it early, the record does
-pub IsEarlyAt-fields : (bytes : List ℕ) (old new : Progress RunState) (error : RunError Reason) → old.state.header ≡ 0
-    → IsEarly 1 (fields_of old.state.place.options bytes) (at_next old) new error → IsEarlyAt bytes old new error
-IsEarlyAt-fields bytes old new error none early = record {
-  keeps = early.keeps;
-  why = elim early.why [
-    | inl memory ↦ inl memory
-    | inr (is, aborts) ↦ inr (
-      is,
-      (
-        aborts.messages,
-        record { reason_is = refl; mode = aborts.mode; no_header = none; are_messages = aborts.are_messages },
-        aborts.messages_are,
-      ),
-    )
-  ];
-}
-
--- a record with a field that is rejected in the mode `abort` ends the run, and appends nothing but messages
-pub IsStep-ended : (bytes : List ℕ) (old new : Progress RunState) (reason : Reason)
-    → IsEarlyAt bytes old new (Ended reason) → (out : List ℕ) → out ≡ old.out
-    → IsStep converting bytes old (record new { out = out }) (Err (Ended reason))
-IsStep-ended bytes old new reason early out out_is = elim early.why [
-  | inl memory ↦ absurd (let never : ⊥ = cc in never)
-  | inr (is, (own, rejected, messages_are)) ↦
-      let reason_is : reason ≡ Rejected = cc in
-      (own, subst (λ reason. IsRejected old.state bytes reason own) (sym reason_is) rejected, out_is, messages_are)
-]

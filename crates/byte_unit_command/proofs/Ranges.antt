@@ -48,7 +48,7 @@ AreRangesFrom-step ranges left next number so_far step = record {
   goes = step.goes;
 }
 
--- a field in a range of the list is chosen; this is its place
+-- a field in a range of the list is chosen; this is its index
 chosen-at : (ranges : List FieldRange) (k : ℕ) (range : FieldRange) (number : ℕ) → k < length ranges
     → slice_index_or ranges k range ≡ range → InRange range number → IsChosenField ranges number
 chosen-at [] k range number bound is within = absurd (omega arith)

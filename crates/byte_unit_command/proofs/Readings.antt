@@ -6,7 +6,7 @@ use Rattle.byte_unit.specs.ReaderLaws.{IsOneAnswer}
 use Rattle.byte_unit.specs.declared.Kind.{Kind}
 use Rattle.byte_unit.specs.declared.ParseError.{ParseError}
 use Rattle.byte_unit_base.proofs.SizeOrFault.{accepted_or_refused}
-use Rattle.byte_unit_command.specs.Field.{IsNoSizeBy, ignores_case}
+use Rattle.byte_unit_command.specs.Field.{IsNoSizeBy}
 use Rattle.byte_unit_command.specs.declared.options.Options.{Options}
 use Rattle.byte_unit_command.specs.Prefixes.{IsAcceptedBy, IsRejectedBy, IsReadingBy, IsBytesReadingBy}
 
@@ -28,11 +28,10 @@ reading-of binary kind ignore_case field answer_is found_is reading =
 pub no-size-of : (options : Options) (field : List ℕ) (binary : Bool) (kind : Kind)
     {answer : Option (Result ℕ ParseError)} {found : Result ℕ ParseError} {error : ParseError}
     → options.binary ≡ binary → options.kind ≡ kind → answer ≡ Some found → found ≡ Err error
-    → IsBytesReadingBy binary kind (ignores_case kind options.ignore_case) field answer → IsNoSizeBy options field
+    → IsBytesReadingBy binary kind options.ignore_case field answer → IsNoSizeBy options field
 no-size-of options field binary kind binary_is kind_is answer_is found_is reading =
-    let case : Kind → Bool = λ kind. ignores_case kind options.ignore_case in
-    let read = reading-of binary kind (case kind) field answer_is found_is reading in
+    let read = reading-of binary kind options.ignore_case field answer_is found_is reading in
     let Of : Bool → Kind → Type 0 =
-    λ binary kind. IsUtf8 field × ((fault : Fault) × IsRejectedBy binary kind (case kind) field fault) in
+    λ binary kind. IsUtf8 field × ((fault : Fault) × IsRejectedBy binary kind options.ignore_case field fault) in
     let here : Of binary kind = (read.0, (_, read.1.fault)) in
     inr (subst (λ binary. Of binary options.kind) (sym binary_is) (subst (λ kind. Of binary kind) (sym kind_is) here))

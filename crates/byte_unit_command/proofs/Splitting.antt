@@ -1,23 +1,25 @@
 -- Lemmas: the loop over the fields of a record.
-use Rattle.std.proofs.Common.{◌≡◌, ◌≤◌, ◌<◌, ℕ, ◌+◌, List, [], ◌∷◌, ◌++◌, length, Some, Bool, refl, sym, ap, subst, ◌∙◌}
+use Rattle.std.proofs.Common.{◌≡◌, ◌≤◌, ℕ, ◌+◌, List, [], ◌∷◌, ◌++◌, length, Some, refl, sym, ap, subst, ◌∙◌}
 use Rattle.std.proofs.Common.{arith, append_assoc, append-nil, inl, inr, true, false, cond, not, ◌&&◌, take, drop, Option}
 use Rattle.std.proofs.Common.{length-drop, length-append, map}
 use Rattle.std.proofs.lemmas.List.Concat.{flat_map-append}
 use Rattle.std.proofs.lemmas.List.Splits.{join_with_byte-slice_split}
 use Rattle.std.specs.List.{flat_map, join_with_byte, onto_first}
 use Rattle.byte_unit_command.specs.Field.{Found}
-use Rattle.byte_unit_command.specs.Fields.{at_blanks, begins_blank, between_of, blank_fields}
-use Rattle.byte_unit_command.specs.Fields.{bytes_between, fields_by, fields_of, is_blank}
+use Rattle.byte_unit_command.specs.Fields.{EndsFirst, begins_blank, between_by, between_of, blank_fields}
+use Rattle.byte_unit_command.specs.Fields.{fields_by, fields_of, is_blank}
 use Rattle.byte_unit_command.specs.Output.{AreFields, IsField, Output, Passes, copied, found_in, joined, messages_in}
 use Rattle.byte_unit_command.specs.Output.{other, together}
 use Rattle.byte_unit_command.specs.Sums.{has_rejected}
 use Rattle.byte_unit_command.specs.CallEnds.{AddsFields, Aborts, Appends, IsEarly}
 use Rattle.byte_unit_command.specs.Ranges.{IsChosenField}
-use Rattle.byte_unit_command.specs.State.{Place, RunState}
+use Rattle.byte_unit_command.specs.State.{Context, RunState}
 use Rattle.byte_unit_stream.specs.Records.{split_by}
 use Rattle.byte_unit_stream.specs.Steps.{Progress}
-use Rattle.byte_unit_command.specs.declared.error.Reason.{Reason}
+use Rattle.byte_unit_command.specs.declared.error.EndReason.{EndReason}
 use Rattle.byte_unit_command.specs.declared.options.Options.{Options}
+use Rattle.byte_unit_command.specs.declared.options.Separator.{Separator}
+use Rattle.byte_unit_command.specs.declared.options.Separator.TheVariants.{Byte, Blanks}
 use Rattle.byte_unit_stream.specs.declared.run.RunError.{RunError}
 use Rattle.byte_unit_stream.proofs.Beginnings.{IsBeginningOf-trans}
 use Rattle.byte_unit_stream.proofs.ChunkRecords.{split_by_IsSplit, IsSplit}
@@ -25,19 +27,19 @@ use Rattle.byte_unit_command.proofs.Converting.{Appends-more, Appends-none, Appe
 use Rattle.byte_unit_command.proofs.Tallies.{Passes-append}
 
 -- what two lists of fields give
-AreFields-append : (place : Place) (number : ℕ) (front back : List (List ℕ)) (begun ended : List Output)
-    → AreFields place number front begun → AreFields place (number + length front) back ended
-    → AreFields place number (front ++ back) (begun ++ ended)
-AreFields-append place number [] back [] ended _ are =
+AreFields-append : (context : Context) (number : ℕ) (front back : List (List ℕ)) (begun ended : List Output)
+    → AreFields context number front begun → AreFields context (number + length front) back ended
+    → AreFields context number (front ++ back) (begun ++ ended)
+AreFields-append context number [] back [] ended _ are =
     let none : number + length {A = List ℕ} [] ≡ number = omega arith in
-    subst (λ number. AreFields place number back ended) none are
-AreFields-append place number [] back (output ∷ begun) ended never are = absurd never
-AreFields-append place number (field ∷ front) back [] ended never are = absurd never
-AreFields-append place number (field ∷ front) back (output ∷ begun) ended (is, begin) are =
+    subst (λ number. AreFields context number back ended) none are
+AreFields-append context number [] back (output ∷ begun) ended never are = absurd never
+AreFields-append context number (field ∷ front) back [] ended never are = absurd never
+AreFields-append context number (field ∷ front) back (output ∷ begun) ended (is, begin) are =
     let after : number + length (field ∷ front) ≡ number + 1 + length front = omega arith in (
       is,
-      AreFields-append place (number + 1) front back begun ended begin
-          (subst (λ number. AreFields place number back ended) after are),
+      AreFields-append context (number + 1) front back begun ended begin
+          (subst (λ number. AreFields context number back ended) after are),
     )
 
 -- an output by its parts
@@ -71,25 +73,25 @@ joined-append between (output ∷ second ∷ begun) next others =
     ∙ ap (λ more. output.text ++ between ++ more) (joined-append between (second ∷ begun) next others)
 
 -- what some fields and then others give together, of which there is one at least
-together-append : (place : Place) (number : ℕ) (between : List ℕ) (begun : List Output) (fields : List (List ℕ))
-    (ended : List Output) → IsSplit fields → AreFields place number fields ended
+together-append : (context : Context) (number : ℕ) (between : List ℕ) (begun : List Output) (fields : List (List ℕ))
+    (ended : List Output) → IsSplit fields → AreFields context number fields ended
     → made ((followed between begun).text ++ (together between ended).text) (found_in begun ++ found_in ended)
     (messages_in begun ++ messages_in ended) ≡ together between (begun ++ ended)
-together-append place number between begun fields [] (own, others, is) are =
-    absurd (subst (λ fields. AreFields place number fields []) is are)
-together-append place number between begun fields (next ∷ ended) split are =
+together-append context number between begun fields [] (own, others, is) are =
+    absurd (subst (λ fields. AreFields context number fields []) is are)
+together-append context number between begun fields (next ∷ ended) split are =
     made-same (joined-append between begun next ended)
     (flat_map-append (λ (output : Output). output.found) begun (next ∷ ended))
     (flat_map-append (λ (output : Output). output.messages) begun (next ∷ ended))
 
 -- some fields and then one more, each followed
-followed-one : (place : Place) (number : ℕ) (between : List ℕ) (begun : List Output) (field : List ℕ)
-    (ended : List Output) → AreFields place number (field ∷ []) ended
+followed-one : (context : Context) (number : ℕ) (between : List ℕ) (begun : List Output) (field : List ℕ)
+    (ended : List Output) → AreFields context number (field ∷ []) ended
     → made ((followed between begun).text ++ (together between ended).text ++ between)
     (found_in begun ++ found_in ended) (messages_in begun ++ messages_in ended) ≡ followed between (begun ++ ended)
-followed-one place number between begun field [] never = absurd never
-followed-one place number between begun field (output ∷ second ∷ ended) (is, never) = absurd never
-followed-one place number between begun field (output ∷ []) are =
+followed-one context number between begun field [] never = absurd never
+followed-one context number between begun field (output ∷ second ∷ ended) (is, never) = absurd never
+followed-one context number between begun field (output ∷ []) are =
     let Text = λ (output : Output). output.text ++ between in
     let text : flat_map Text begun ++ output.text ++ between ≡ flat_map Text (begun ++ output ∷ []) =
     append_assoc (flat_map Text begun) output.text between
@@ -99,13 +101,13 @@ followed-one place number between begun field (output ∷ []) are =
     (flat_map-append (λ (output : Output). output.messages) begun (output ∷ []))
 
 -- fields none of which is chosen are copied
-AreFields-copied : (place : Place) (fields : List (List ℕ)) (number : ℕ)
-    → ((later : ℕ) → number ≤ later → ¬ IsChosenField place.options.fields.now later)
-    → AreFields place number fields (map copied fields)
-AreFields-copied place [] number past = tt
-AreFields-copied place (field ∷ fields) number past = (
+AreFields-copied : (context : Context) (fields : List (List ℕ)) (number : ℕ)
+    → ((later : ℕ) → number ≤ later → ¬ IsChosenField context.options.fields.now later)
+    → AreFields context number fields (map copied fields)
+AreFields-copied context [] number past = tt
+AreFields-copied context (field ∷ fields) number past = (
   other (past number (omega arith)) refl,
-  AreFields-copied place fields (number + 1) (λ later high. past later (omega (arith, high))),
+  AreFields-copied context fields (number + 1) (λ later high. past later (omega (arith, high))),
 )
 
 -- copied fields together
@@ -155,39 +157,35 @@ joined-blanks (byte ∷ bytes) =
     (onto_first byte (blank_fields bytes)))) [ true ↦ alone | false ↦ joined-byte byte (blank_fields bytes) ] in
     both ∙ ap (λ rest. byte ∷ rest) (joined-blanks bytes)
 
--- between delimiters and between blanks
-module _ (options : Options) (delimiter : ℕ) (is : options.delimiter ≡ Some delimiter) (bytes : List ℕ) where
+-- fields that are separated
+module _ (options : Options) (separator : Separator) (is : options.separator ≡ Some separator) (bytes : List ℕ) where
   -- there is a first field, so the list of the fields is not empty
   pub fields_IsSplit : IsSplit (fields_of options bytes)
   fields_IsSplit =
-      let either : (blanks : Bool) → IsSplit (fields_by blanks (Some delimiter) bytes) =
-      λ blanks. elim blanks as (λ blanks. IsSplit (fields_by blanks (Some delimiter) bytes))
-      [ true ↦ blank_fields_IsSplit bytes | false ↦ split_by_IsSplit delimiter bytes ] in
-      subst (λ mark. IsSplit (fields_by (at_blanks options) mark bytes)) (sym is) (either (at_blanks options))
+      subst (λ separator. IsSplit (fields_by separator bytes)) (sym is) (elim separator as
+      (λ separator. IsSplit (fields_by (Some separator) bytes))
+      [ Byte mark ↦ split_by_IsSplit mark bytes | Blanks ↦ blank_fields_IsSplit bytes ])
 
   -- the fields with the bytes between them are the record
   fields_joined : joined (between_of options) (fields_of options bytes) ≡ bytes
   fields_joined =
-      let Whole : Bool → Option ℕ → Type 0 =
-      λ blanks mark. joined (bytes_between blanks mark) (fields_by blanks mark bytes) ≡ bytes in
-      let either : Whole (at_blanks options) (Some delimiter) =
-      elim (at_blanks options) as (λ blanks. Whole blanks (Some delimiter)) [
-        | true ↦ joined-blanks bytes
-        | false ↦
-            joined-split delimiter (split_by delimiter bytes) ∙ join_with_byte-slice_split delimiter bytes
-      ] in
-      subst (Whole (at_blanks options)) (sym is) either
+      let Whole : Option Separator → Type 0 =
+      λ separator. joined (between_by separator) (fields_by separator bytes) ≡ bytes in
+      subst Whole (sym is) (elim separator as (λ separator. Whole (Some separator)) [
+        | Byte mark ↦ joined-split mark (split_by mark bytes) ∙ join_with_byte-slice_split mark bytes
+        | Blanks ↦ joined-blanks bytes
+      ])
 
 -- between two fields of a record: those before are added, each with the bytes after it, and the rest gives the others
 pub record IsSplitting (bytes : List ℕ) (old : Progress RunState) (number : ℕ) (rest : List ℕ)
     (new : Progress RunState) : Type 0 where
   pub before : List (List ℕ)
   pub outputs : List Output
-  pub fields_are : fields_of old.state.place.options bytes ≡ before ++ fields_of old.state.place.options rest
+  pub fields_are : fields_of old.state.context.options bytes ≡ before ++ fields_of old.state.context.options rest
   pub number_is : number ≡ 1 + length before
-  pub are_fields : AreFields old.state.place 1 before outputs
-  pub passes : Passes old.state.place.options (found_in outputs)
-  pub appends : Appends (followed (between_of old.state.place.options) outputs) old new
+  pub are_fields : AreFields old.state.context 1 before outputs
+  pub passes : Passes old.state.context.options (found_in outputs)
+  pub appends : Appends (followed (between_of old.state.context.options) outputs) old new
   pub few : number + length rest ≤ 1 + length bytes
 
 -- before the first field nothing is appended, and the whole record is left
@@ -203,15 +201,9 @@ IsSplitting-start bytes old = record {
   few = omega arith;
 }
 
--- the first field ends at this place, and the others begin this number of bytes after it
-abbrev pub EndsFirst : Options → List ℕ → ℕ → ℕ → Type 0
-EndsFirst options bytes place gap =
-    (0 < place + gap) × (place + gap ≤ length bytes)
-    × (fields_of options bytes ≡ take place bytes ∷ fields_of options (drop (place + gap) bytes))
-
 module _ {bytes : List ℕ} {old : Progress RunState} {number : ℕ} {rest : List ℕ} {new : Progress RunState}
     (so_far : IsSplitting bytes old number rest new) where
-  -- the new progress, with the place at the start, which does not change
+  -- the new progress, with the context at the start, which does not change
   abbrev now : Progress RunState
   now = record new { state = record old.state { tally = new.state.tally } }
 
@@ -219,7 +211,7 @@ module _ {bytes : List ℕ} {old : Progress RunState} {number : ℕ} {rest : Lis
   now_is = ap (λ state. record new { state = state }) so_far.appends.state_is
 
   abbrev options : Options
-  options = old.state.place.options
+  options = old.state.context.options
 
   abbrev between : List ℕ
   between = between_of options
@@ -229,22 +221,22 @@ module _ {bytes : List ℕ} {old : Progress RunState} {number : ℕ} {rest : Lis
   appended = subst (Appends (followed between so_far.outputs) old) now_is so_far.appends
 
   -- what the next fields give, too
-  are-more : (fields : List (List ℕ)) (outputs : List Output) → AreFields old.state.place number fields outputs
-      → AreFields old.state.place 1 (so_far.before ++ fields) (so_far.outputs ++ outputs)
-  are-more fields outputs are = AreFields-append old.state.place 1 so_far.before fields so_far.outputs outputs
-      so_far.are_fields (subst (λ number. AreFields old.state.place number fields outputs) so_far.number_is are)
+  are-more : (fields : List (List ℕ)) (outputs : List Output) → AreFields old.state.context number fields outputs
+      → AreFields old.state.context 1 (so_far.before ++ fields) (so_far.outputs ++ outputs)
+  are-more fields outputs are = AreFields-append old.state.context 1 so_far.before fields so_far.outputs outputs
+      so_far.are_fields (subst (λ number. AreFields old.state.context number fields outputs) so_far.number_is are)
 
   -- the invariant holds after one more field and the bytes after it, `mark`
-  pub IsSplitting-step : (mark : List ℕ) → mark ≡ between → (place : ℕ) → EndsFirst options rest place (length between)
-      → (next : Progress RunState) → AddsFields number (take place rest ∷ []) new next
-      → (out : List ℕ) → out ≡ next.out ++ mark → (behind : List ℕ) → behind ≡ drop (place + length mark) rest
+  pub IsSplitting-step : (mark : List ℕ) → mark ≡ between → (n : ℕ) → EndsFirst options.separator rest n
+      → (next : Progress RunState) → AddsFields number (take n rest ∷ []) new next
+      → (out : List ℕ) → out ≡ next.out ++ mark → (behind : List ℕ) → behind ≡ drop (n + length mark) rest
       → IsSplitting bytes old (number + 1) behind (record next { out = out })
-  IsSplitting-step mark mark_is place ends_there next adds_new out out_is behind behind_is =
-      let ends = subst (λ (mark : List ℕ). EndsFirst options rest place (length mark)) (sym mark_is) ends_there in
-      let field = take place rest in
+  IsSplitting-step mark mark_is n ends next adds_new out out_is behind behind_now =
+      let behind_is = behind_now ∙ ap (λ (mark : List ℕ). drop (n + length mark) rest) mark_is in
+      let field = take n rest in
       let others = fields_of options behind in
       let adds = subst (λ at. AddsFields number (field ∷ []) at next) now_is adds_new in
-      let same = followed-one old.state.place number between so_far.outputs field adds.outputs adds.are_fields in record {
+      let same = followed-one old.state.context number between so_far.outputs field adds.outputs adds.are_fields in record {
         before = so_far.before ++ field ∷ [];
         outputs = so_far.outputs ++ adds.outputs;
         fields_are =
@@ -262,7 +254,7 @@ module _ {bytes : List ℕ} {old : Progress RunState} {number : ℕ} {rest : Lis
           arith,
           so_far.few,
           ap (λ (behind : List ℕ). length behind) behind_is,
-          length-drop (place + length mark) rest,
+          length-drop (n + length between) rest,
           ends.0,
           ends.1,
         );
@@ -272,10 +264,10 @@ module _ {bytes : List ℕ} {old : Progress RunState} {number : ℕ} {rest : Lis
   with-others : IsSplit (fields_of options rest) → (next : Progress RunState)
       → AddsFields number (fields_of options rest) now next → AddsFields 1 (fields_of options bytes) old next
   with-others split next adds =
-      let same = together-append old.state.place number between so_far.outputs (fields_of options rest) adds.outputs split
+      let same = together-append old.state.context number between so_far.outputs (fields_of options rest) adds.outputs split
       adds.are_fields in record {
         outputs = so_far.outputs ++ adds.outputs;
-        are_fields = subst (λ fields. AreFields old.state.place 1 fields (so_far.outputs ++ adds.outputs))
+        are_fields = subst (λ fields. AreFields old.state.context 1 fields (so_far.outputs ++ adds.outputs))
             (sym so_far.fields_are) (are-more (fields_of options rest) adds.outputs adds.are_fields);
         passes = subst (λ (output : Output). Passes options output.found) same
             (Passes-append options (found_in so_far.outputs) (found_in adds.outputs) so_far.passes adds.passes);
@@ -291,17 +283,17 @@ module _ {bytes : List ℕ} {old : Progress RunState} {number : ℕ} {rest : Lis
       (subst (λ at. AddsFields number (rest ∷ []) at next) now_is adds))
 
   -- if no other field is chosen, copying the rest adds the fields of the whole record
-  pub AddsFields-copied : (delimiter : ℕ) → options.delimiter ≡ Some delimiter
+  pub AddsFields-copied : (separator : Separator) → options.separator ≡ Some separator
       → ((later : ℕ) → number ≤ later → ¬ IsChosenField options.fields.now later)
       → (out : List ℕ) → out ≡ new.out ++ rest
       → AddsFields 1 (fields_of options bytes) old (record new { out = out })
-  AddsFields-copied delimiter is past out out_is =
+  AddsFields-copied separator is past out out_is =
       let fields = fields_of options rest in
-      let same = sym (together-copied between fields ∙ ap copied (fields_joined options delimiter is rest)) in
+      let same = sym (together-copied between fields ∙ ap copied (fields_joined options separator is rest)) in
       subst (λ (at : Progress RunState). AddsFields 1 (fields_of options bytes) old (record at { out = out }))
-      (sym now_is) (with-others (fields_IsSplit options delimiter is rest) (record now { out = out }) (record {
+      (sym now_is) (with-others (fields_IsSplit options separator is rest) (record now { out = out }) (record {
         outputs = map copied fields;
-        are_fields = AreFields-copied old.state.place fields number past;
+        are_fields = AreFields-copied old.state.context fields number past;
         passes = subst (λ (output : Output). Passes options output.found) same (λ mode. refl);
         appends = subst (λ output. Appends output now (record now { out = out })) same
             (Appends-more (Appends-none now) rest out out_is);
@@ -332,7 +324,7 @@ module _ {bytes : List ℕ} {old : Progress RunState} {number : ℕ} {rest : Lis
           are_fields = are-more at.before at.outputs at.are_fields;
           none_before = ap has_rejected found ∙ Passes-append options (found_in so_far.outputs) (found_in at.outputs)
               so_far.passes (λ _. at.none_before) aborts.mode;
-          is_field = subst (λ number. IsField old.state.place number at.field at.own) count at.is_field;
+          is_field = subst (λ number. IsField old.state.context number at.field at.own) count at.is_field;
           is_rejected = at.is_rejected;
           messages_are =
               ap (λ more. before ++ more) at.messages_are
@@ -346,7 +338,7 @@ module _ {bytes : List ℕ} {old : Progress RunState} {number : ℕ} {rest : Lis
 
   -- if the next fields end the call early, the record does
   pub IsEarly-next : (fields others : List (List ℕ)) → fields_of options rest ≡ fields ++ others
-      → (next : Progress RunState) (error : RunError Reason) → IsEarly number fields new next error
+      → (next : Progress RunState) (error : RunError EndReason) → IsEarly number fields new next error
       → IsEarly 1 (fields_of options bytes) old next error
   IsEarly-next fields others next_are next error early_new =
       let early = subst (λ at. IsEarly number fields at next error) now_is early_new in record {

@@ -4,13 +4,13 @@ use Rattle.byte_unit_command.specs.Converted.{IsRejected}
 use Rattle.byte_unit_command.specs.Fields.{between_of}
 use Rattle.byte_unit_command.specs.Messages.{AreLimitMessages}
 use Rattle.byte_unit_command.specs.Output.{AreFields, AreMessagesToRejected, Output, Passes, together}
-use Rattle.byte_unit_command.specs.State.{Place as RecordPlace, RunState}
+use Rattle.byte_unit_command.specs.State.{Context as ContextOfRecord, RunState}
 use Rattle.byte_unit_command.specs.Sums.{Counts}
 use Rattle.byte_unit_command.specs.declared.converter.Converter.{Converter}
-use Rattle.byte_unit_command.specs.declared.error.Reason.{Reason}
-use Rattle.byte_unit_command.specs.declared.error.Reason.TheVariants.{Rejected}
+use Rattle.byte_unit_command.specs.declared.error.EndReason.{EndReason}
+use Rattle.byte_unit_command.specs.declared.error.EndReason.TheVariants.{Rejected}
 use Rattle.byte_unit_command.specs.declared.notice.Notices.{Notices}
-use Rattle.byte_unit_command.specs.declared.notice.Place.{Place}
+use Rattle.byte_unit_command.specs.declared.notice.Context.{Context}
 use Rattle.byte_unit_command.specs.declared.options.Invalid.TheVariants.{Abort}
 use Rattle.byte_unit_stream.specs.Beginnings.{IsBeginningOf}
 use Rattle.byte_unit_stream.specs.Steps.{Progress}
@@ -21,14 +21,14 @@ use Rattle.byte_unit_stream.specs.declared.run.RunError.TheVariants.{Memory, End
 abbrev pub messages_of : {A : Type 0} → Notices A → List ℕ
 messages_of notices = notices.messages.items
 
--- the place of a record, as the definitions say it
-abbrev pub place_of : Place → RecordPlace
-place_of place = record { options = place.options.now; word = place.word.now; number = place.number }
+-- the context of a record, as the definitions say it
+abbrev pub context_of : Context → ContextOfRecord
+context_of context = record { options = context.options.now; word = context.word.now; number = context.number }
 
 -- how far a converter has come
 abbrev pub state_of : {A : Type 0} → Converter A → Progress RunState
 state_of converter = record {
-  state = record { place = place_of converter.place; header = converter.header; tally = converter.tally };
+  state = record { context = context_of converter.context; header = converter.header; tally = converter.tally };
   out = converter.waiting.items;
   messages = messages_of converter.notices;
 }
@@ -36,49 +36,49 @@ state_of converter = record {
 -- an output was appended, and what is found in it was counted
 pub record Appends (output : Output) (old new : Progress RunState) : Type 0 where
   pub state_is : new.state ≡ record old.state { tally = new.state.tally }
-  pub counts : Counts old.state.place.options old.state.tally output.found new.state.tally
+  pub counts : Counts old.state.context.options old.state.tally output.found new.state.tally
   pub out_is : new.out ≡ old.out ++ output.text
   pub messages_are : new.messages ≡ old.messages ++ output.messages
 
 -- what these fields give was appended, the first of which has this number
 pub record AddsFields (number : ℕ) (fields : List (List ℕ)) (old new : Progress RunState) : Type 0 where
   pub outputs : List Output
-  pub are_fields : AreFields old.state.place number fields outputs
-  pub passes : Passes old.state.place.options (together (between_of old.state.place.options) outputs).found
-  pub appends : Appends (together (between_of old.state.place.options) outputs) old new
+  pub are_fields : AreFields old.state.context number fields outputs
+  pub passes : Passes old.state.context.options (together (between_of old.state.context.options) outputs).found
+  pub appends : Appends (together (between_of old.state.context.options) outputs) old new
 
 -- in the mode `abort`, one of these fields is rejected, and the messages up to that on it were appended
 pub record Aborts (number : ℕ) (fields : List (List ℕ)) (old new : Progress RunState) : Type 0 where
-  pub mode : old.state.place.options.invalid ≡ Abort
+  pub mode : old.state.context.options.invalid ≡ Abort
   pub messages : List ℕ
-  pub are_messages : AreMessagesToRejected old.state.place number fields messages
+  pub are_messages : AreMessagesToRejected old.state.context number fields messages
   pub messages_are : new.messages ≡ old.messages ++ messages
 
 -- the size of this field was counted, and the messages about it were appended
 pub record TellsLimits (number : ℕ) (field : List ℕ) (size : ℕ) (old new : Progress RunState) : Type 0 where
   pub messages : List ℕ
-  pub are_messages : AreLimitMessages old.state.place number field size messages
+  pub are_messages : AreLimitMessages old.state.context number field size messages
   pub appends : Appends (record { text = []; found = Some size ∷ []; messages = messages }) old new
 
 -- output and messages were appended, or none, with the same options
 abbrev pub Keeps : Progress RunState → Progress RunState → Type 0
 Keeps old new =
     IsBeginningOf old.out new.out × IsBeginningOf old.messages new.messages
-    × (new.state.place.options ≡ old.state.place.options)
+    × (new.state.context.options ≡ old.state.context.options)
 
 -- a call ends early that converts these fields: it is out of memory, or one of them is rejected
-pub record IsEarly (number : ℕ) (fields : List (List ℕ)) (old new : Progress RunState) (error : RunError Reason)
+pub record IsEarly (number : ℕ) (fields : List (List ℕ)) (old new : Progress RunState) (error : RunError EndReason)
     : Type 0 where
   pub keeps : Keeps old new
   pub why : (error ≡ Memory) ⊎ ((error ≡ Ended Rejected) × Aborts number fields old new)
 
 -- a call converts these fields, or ends early
-abbrev pub Ends : ℕ → List (List ℕ) → Progress RunState → Progress RunState → Result ⊤ (RunError Reason) → Type 0
+abbrev pub Ends : ℕ → List (List ℕ) → Progress RunState → Progress RunState → Result ⊤ (RunError EndReason) → Type 0
 Ends number fields old new result =
     MatchResult result (λ _. AddsFields number fields old new) (IsEarly number fields old new)
 
 -- a call ends early that converts a record: it is out of memory, or a field of the record is rejected
-pub record IsEarlyAt (bytes : List ℕ) (old new : Progress RunState) (error : RunError Reason) : Type 0 where
+pub record IsEarlyAt (bytes : List ℕ) (old new : Progress RunState) (error : RunError EndReason) : Type 0 where
   pub keeps : Keeps old new
   pub why : (error ≡ Memory) ⊎ ((error ≡ Ended Rejected)
       × ((own : List ℕ) × IsRejected old.state bytes Rejected own × (new.messages ≡ old.messages ++ own)))

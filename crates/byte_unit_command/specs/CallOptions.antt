@@ -1,6 +1,6 @@
 -- The options of a call, by the values of its options.
 use Rattle.std.specs.Prelude.{◌≡◌, ℕ, ◌≤◌, ⊤, ◌⊎◌, Bool, true, false, if◌then◌else◌, List, [], Option, None, Some}
-use Rattle.std.specs.Prelude.{MatchOption, unwrap_or, is_some, codes}
+use Rattle.std.specs.Prelude.{MatchOption, option_map, unwrap_or, is_some, codes}
 use Rattle.std.specs.Borrow.{Bor}
 use Rattle.byte_unit.specs.declared.UnitType.TheVariants.{Binary}
 use Rattle.byte_unit_command.specs.Meaning.{IsFrom, IsOutputForm, MeansNothing}
@@ -11,10 +11,12 @@ use Rattle.byte_unit_command.specs.declared.options.FieldRange.{FieldRange}
 use Rattle.byte_unit_command.specs.declared.options.Form.{Form}
 use Rattle.byte_unit_command.specs.declared.options.Form.TheVariants.{Exact, Largest}
 use Rattle.byte_unit_command.specs.declared.options.Options.{Options}
+use Rattle.byte_unit_command.specs.declared.options.Separator.{Separator}
+use Rattle.byte_unit_command.specs.declared.options.Separator.TheVariants.{Blanks}
 use Rattle.byte_unit_command.specs.declared.values.Values.{Values}
 use Rattle.byte_unit_command.specs.declared.wrong.ValueError.{ValueError}
 use Rattle.byte_unit_command.specs.declared.wrong.ValueError.TheVariants.{Delimiter, From, Mode, NoUnit, Precision}
-use Rattle.byte_unit_command.specs.declared.wrong.ValueError.TheVariants.{NoDelimiter, Padding}
+use Rattle.byte_unit_command.specs.declared.wrong.ValueError.TheVariants.{Fields, NoDelimiter, Padding}
 use Rattle.byte_unit_command.specs.declared.wrong.Wrong.{Wrong}
 
 -- the form without `--to`: `-H` means `--to=iec -p 1`, but for what `--to` and `-p` say
@@ -31,11 +33,11 @@ abbrev pub IsFormOf : Values → Form → Type 0
 IsFormOf values form =
     IsForm (form_without values.human_readable) values.kind values.ignore_case (text_of values.to) form
 
--- the byte between two fields, by the delimiter that is given: with `--blanks` a space, in place of any blank
-abbrev pub IsSeparator : Values → Option ℕ → Type 0
+-- what separates fields: blanks with `--blanks`, and else the delimiter that is given
+abbrev pub IsSeparator : Values → Option Separator → Type 0
 IsSeparator values separator =
-    (delimiter : Option ℕ) × IsDelimiter (text_of values.delimiter) delimiter
-    × (separator ≡ (if values.blanks then Some 32 else delimiter))
+    (delimiter : Option Separator) × IsDelimiter (text_of values.delimiter) delimiter
+    × (separator ≡ (if values.blanks then Some Blanks else delimiter))
 
 -- the options of a call with these values and fields. Operands are records that end with a zero byte, and none of them
 -- is a header
@@ -46,9 +48,8 @@ pub record AreOptions (values : Values) (ranges : List FieldRange) (options : Op
   pub form : (given : Form) × IsFormOf values given × IsOutputForm values.no_unit given options.form
   pub suffix : options.suffix.now ≡ unwrap_or (text_of values.suffix) []
   pub precision : options.precision ≡ precision_of values.human_readable values.precision
-  pub padding : IsPadding (text_of values.padding) (options.width, options.align_left)
-  pub delimiter : IsSeparator values options.delimiter
-  pub blanks : options.blanks ≡ values.blanks
+  pub padding : IsPadding (text_of values.padding) (record { width = options.width; align_left = options.align_left })
+  pub separator : IsSeparator values options.separator
   pub fields : options.fields.now ≡ ranges
   pub record_end : options.record_end ≡ (if values.has_operands then 0 else if values.zero_terminated then 0 else 10)
   pub output_end : options.output_end ≡ (if values.zero_terminated then 0 else 10)
@@ -102,25 +103,36 @@ IsWrongField values wrong =
 abbrev pub IsWrongSeparator : Values → Wrong → Type 0
 IsWrongSeparator values wrong =
     IsWrongOf (codes "--delimiter") values.delimiter (MeansNothing IsDelimiter Delimiter) wrong
-    ⊎ (delimiter : Option ℕ) × IsDelimiter (text_of values.delimiter) delimiter × IsWrongField values wrong
+    ⊎ (delimiter : Option Separator) × IsDelimiter (text_of values.delimiter) delimiter × IsWrongField values wrong
+
+-- the ranges of a list of fields
+abbrev pub ranges_of : Option (Bor (List FieldRange)) → Option (List FieldRange)
+ranges_of fields = option_map (λ list. list.now) fields
+
+-- `--field` is not a list of fields
+abbrev pub IsWrongList : Values → Option (Bor (List FieldRange)) → Wrong → Type 0
+IsWrongList values fields wrong =
+    (ranges_of fields ≡ None) × (wrong.option.now ≡ codes "--field") × (text_of wrong.value ≡ text_of values.field)
+    × (wrong.reason ≡ Fields)
 
 -- an option is wrong; or it is right, and with what it means this holds of the later ones
 abbrev pub OrLater : {M : Type 0} → Type 0 → (M → Type 0) → (M → Type 0) → Type 0
 OrLater {M} is_wrong IsRight Later = is_wrong ⊎ (meaning : M) × IsRight meaning × Later meaning
 
--- this is the first option that is wrong, in this order
-abbrev pub IsFirstWrong : Values → Wrong → Type 0
-IsFirstWrong values wrong =
+-- this is the first option that is wrong, in this order; `fields` is the list that `--field` is, if it is one
+abbrev pub IsFirstWrong : Values → Option (Bor (List FieldRange)) → Wrong → Type 0
+IsFirstWrong values fields wrong =
     OrLater (IsWrongOf (codes "--from") values.from (MeansNothing IsFrom From) wrong) (IsFrom (text_of values.from))
     (λ binary. OrLater (IsWrongForm values wrong)
     (λ given. IsFormOf values given × IsWithinExact given values.precision)
     (λ given. OrLater (IsWrongNoUnit values.no_unit given wrong) (IsOutputForm values.no_unit given)
     (λ _. OrLater (IsWrongSeparator values wrong)
-    (λ (mark : Option ℕ). IsSeparator values mark × AreFieldsSeparated values)
+    (λ (separator : Option Separator). IsSeparator values separator × AreFieldsSeparated values)
+    (λ _. OrLater (IsWrongList values fields wrong) (λ (ranges : List FieldRange). ranges_of fields ≡ Some ranges)
     (λ _. OrLater (IsWrongOf (codes "--padding") values.padding (MeansNothing IsPadding Padding) wrong)
     (IsPadding (text_of values.padding))
     (λ _. OrLater (IsWrongOf (codes "--invalid") values.invalid (MeansNothing IsMode Mode) wrong)
     (IsMode (text_of values.invalid))
     (λ _. OrLater (IsWrongOf (codes "--max") values.max (IsNoLimit binary values.kind values.ignore_case) wrong)
     (IsLimit binary values.kind values.ignore_case (text_of values.max))
-    (λ _. IsWrongOf (codes "--min") values.min (IsNoLimit binary values.kind values.ignore_case) wrong)))))))
+    (λ _. IsWrongOf (codes "--min") values.min (IsNoLimit binary values.kind values.ignore_case) wrong))))))))

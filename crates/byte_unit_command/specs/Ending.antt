@@ -3,8 +3,8 @@ use Rattle.std.specs.Prelude.{ℕ, List, Bool, ◌&&◌, true, false, if◌then�
 use Rattle.std.specs.Prelude.{codes}
 use Rattle.byte_unit_command.specs.declared.options.Invalid.{Invalid}
 use Rattle.byte_unit_command.specs.declared.options.Invalid.TheVariants.{Abort, Fail, Warn, Ignore}
-use Rattle.byte_unit_command.specs.declared.error.Reason.{Reason}
-use Rattle.byte_unit_command.specs.declared.error.Reason.TheVariants.{Rejected, Total}
+use Rattle.byte_unit_command.specs.declared.error.EndReason.{EndReason}
+use Rattle.byte_unit_command.specs.declared.error.EndReason.TheVariants.{Rejected, Total}
 use Rattle.byte_unit_command.specs.declared.tally.Tally.{Tally}
 use Rattle.byte_unit_stream.specs.declared.run.RunError.{RunError}
 use Rattle.byte_unit_stream.specs.declared.run.RunError.TheVariants.{Memory, Read, Write, Ended}
@@ -22,7 +22,7 @@ status_of_tally invalid tally =
     if tally.rejected && fails invalid then 2 else (if tally.beyond then 3 else 0)
 
 -- the exit status of a run
-abbrev pub status_of : Invalid → Result Tally (RunError Reason) → ℕ
+abbrev pub status_of : Invalid → Result Tally (RunError EndReason) → ℕ
 status_of invalid (Ok tally) = status_of_tally invalid tally
 status_of invalid (Err (Ended reason)) = 2
 status_of invalid (Err Memory) = 1
@@ -30,7 +30,7 @@ status_of invalid (Err Read) = 1
 status_of invalid (Err Write) = 1
 
 -- the message of a run that ended early, without its line end; in the mode `abort` it is the one about the field
-abbrev pub message_of : RunError Reason → Option (List ℕ)
+abbrev pub message_of : RunError EndReason → Option (List ℕ)
 message_of Memory = Some (codes "out of memory")
 message_of Read = Some (codes "read failed")
 message_of Write = Some (codes "write failed")

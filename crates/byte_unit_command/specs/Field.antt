@@ -1,12 +1,10 @@
 -- What is written for one field, and what is found in it.
-use Rattle.std.specs.Prelude.{◌≡◌, ℕ, ◌-◌, ◌⊎◌, Bool, false, nat_eq, if◌then◌else◌, List, [], ◌∷◌, ◌++◌, length}
+use Rattle.std.specs.Prelude.{◌≡◌, ℕ, ◌-◌, ◌⊎◌, Bool, nat_eq, if◌then◌else◌, List, [], ◌∷◌, ◌++◌, length}
 use Rattle.std.specs.Prelude.{take, Option}
 use Rattle.std.specs.List.{ends_with}
 use Rattle.std.specs.Str.{IsUtf8, is_utf8, trim_end}
 use Rattle.byte_unit.specs.Fault.{Fault}
-use Rattle.byte_unit.specs.declared.Kind.{Kind}
-use Rattle.byte_unit.specs.declared.Kind.TheVariants.{Byte, Bit}
-use Rattle.byte_unit_command.specs.Fields.{gap_of, width_of}
+use Rattle.byte_unit_command.specs.Fields.{gap_of, columns_in}
 use Rattle.byte_unit_command.specs.Prefixes.{IsAcceptedBy, IsRejectedBy}
 use Rattle.byte_unit_command.specs.Formatted.{IsFormatted}
 use Rattle.byte_unit_command.specs.declared.options.Options.{Options}
@@ -31,15 +29,10 @@ without_suffix (c ∷ cs) text =
     if has_suffix suffix text then before_suffix suffix text
     else (if has_suffix suffix (before_space text) then before_suffix suffix (before_space text) else text)
 
--- whether case is ignored; it is always significant in sizes in bits, where it tells bits from bytes
-abbrev pub ignores_case : Kind → Bool → Bool
-ignores_case Byte ignore_case = ignore_case
-ignores_case Bit ignore_case = false
-
 -- the text is a size
 abbrev pub IsSizeBy : Options → List ℕ → ℕ → Type 0
 IsSizeBy options text size =
-    IsUtf8 text × IsAcceptedBy options.binary options.kind (ignores_case options.kind options.ignore_case) text size
+    IsUtf8 text × IsAcceptedBy options.binary options.kind options.ignore_case text size
 
 -- the field is a size, without the suffix of the options if it ends with that
 abbrev pub IsSize : Options → List ℕ → ℕ → Type 0
@@ -50,8 +43,7 @@ abbrev pub IsNoSizeBy : Options → List ℕ → Type 0
 IsNoSizeBy options text =
     ¬ IsUtf8 text
     ⊎ IsUtf8 text
-    × ((fault : Fault)
-    × IsRejectedBy options.binary options.kind (ignores_case options.kind options.ignore_case) text fault)
+    × ((fault : Fault) × IsRejectedBy options.binary options.kind options.ignore_case text fault)
 
 -- the field, without the suffix of the options, is not a size
 abbrev pub IsNoSize : Options → List ℕ → Type 0
@@ -62,8 +54,8 @@ abbrev pub Found : Type 0
 Found = Option ℕ
 
 -- the text that replaces the field with this number if the field is this size: the size formatted in the columns of
--- `width_of`, after the blank that separates the field from the one before it
+-- `columns_in`, after the blank that separates the field from the one before it
 pub record IsPlaced (options : Options) (number : ℕ) (field : List ℕ) (size : ℕ) (text : List ℕ) : Type 0 where
   pub formatted : List ℕ
-  pub is_formatted : IsFormatted (record options { width = width_of options number field }) size formatted
+  pub is_formatted : IsFormatted (record options { width = columns_in options number field }) size formatted
   pub text_is : text ≡ gap_of options number field ++ formatted

@@ -1,8 +1,10 @@
 -- The fields of a record.
-use Rattle.std.specs.Prelude.{ℕ, ◌-◌, Bool, true, false, not, ◌&&◌, ◌||◌, cond, nat_lt, List, [], ◌∷◌}
-use Rattle.std.specs.Prelude.{◌==◌, length, take, Option, None, Some}
+use Rattle.std.specs.Prelude.{◌≡◌, ℕ, ◌+◌, ◌-◌, ◌<◌, ◌≤◌, Bool, false, not, ◌&&◌, ◌||◌, cond, nat_lt, List, [], ◌∷◌}
+use Rattle.std.specs.Prelude.{◌==◌, length, take, drop, Option, None, Some}
 use Rattle.std.specs.List.{onto_first, slice_split}
 use Rattle.byte_unit_command.specs.declared.options.Options.{Options}
+use Rattle.byte_unit_command.specs.declared.options.Separator.{Separator}
+use Rattle.byte_unit_command.specs.declared.options.Separator.TheVariants.{Byte, Blanks}
 
 -- whether a byte is a blank: a space or a tab
 abbrev pub is_blank : ℕ → Bool
@@ -21,44 +23,42 @@ blank_fields (byte ∷ bytes) =
     cond (not (is_blank byte) && begins_blank bytes) ((byte ∷ []) ∷ blank_fields bytes)
     (onto_first byte (blank_fields bytes))
 
--- the fields of a record: those between blanks; or the subslices between its delimiters, empty ones included;
--- without a delimiter the record itself
-abbrev pub fields_by : Bool → Option ℕ → List ℕ → List (List ℕ)
-fields_by true delimiter record_bytes = blank_fields record_bytes
-fields_by false None record_bytes = record_bytes ∷ []
-fields_by false (Some delimiter) record_bytes = slice_split (λ byte. byte == delimiter) record_bytes
-
--- whether fields are between blanks
-abbrev pub splits_at_blanks : Option ℕ → Bool → Bool
-splits_at_blanks None blanks = false
-splits_at_blanks (Some delimiter) blanks = blanks
-
--- whether the options separate fields at blanks
-abbrev pub at_blanks : Options → Bool
-at_blanks options = splits_at_blanks options.delimiter options.blanks
+-- the fields of a record: the record itself if nothing separates them; the subslices between the bytes that do, empty
+-- ones included; or those between blanks
+abbrev pub fields_by : Option Separator → List ℕ → List (List ℕ)
+fields_by None record_bytes = record_bytes ∷ []
+fields_by (Some (Byte mark)) record_bytes = slice_split (λ byte. byte == mark) record_bytes
+fields_by (Some Blanks) record_bytes = blank_fields record_bytes
 
 -- the fields of a record by the options
 abbrev pub fields_of : Options → List ℕ → List (List ℕ)
-fields_of options record_bytes = fields_by (at_blanks options) options.delimiter record_bytes
+fields_of options record_bytes = fields_by options.separator record_bytes
 
--- the bytes between two fields: the delimiter, if there is one; none between blanks, since a field has those before it
-abbrev pub bytes_between : Bool → Option ℕ → List ℕ
-bytes_between true delimiter = []
-bytes_between false None = []
-bytes_between false (Some delimiter) = delimiter ∷ []
+-- the bytes between two fields: none between blanks, since a field has those before it
+abbrev pub between_by : Option Separator → List ℕ
+between_by None = []
+between_by (Some (Byte mark)) = mark ∷ []
+between_by (Some Blanks) = []
 
 -- the bytes between two fields by the options
 abbrev pub between_of : Options → List ℕ
-between_of options = bytes_between (at_blanks options) options.delimiter
+between_of options = between_by options.separator
+
+-- the first field has this number of bytes, and others follow after the bytes between two fields
+abbrev pub EndsFirst : Option Separator → List ℕ → ℕ → Type 0
+EndsFirst separator bytes n =
+    let next = n + length (between_by separator) in
+    (0 < next) × (next ≤ length bytes)
+    × (fields_by separator bytes ≡ take n bytes ∷ fields_by separator (drop next bytes))
 
 -- between blanks, the one that separates a field from the field before it
-abbrev pub gap_by : Bool → ℕ → List ℕ → List ℕ
-gap_by true number field = cond (nat_lt 1 number) (take 1 field) []
-gap_by false number field = []
+abbrev pub gap_by : Option Separator → ℕ → List ℕ → List ℕ
+gap_by (Some Blanks) number field = cond (nat_lt 1 number) (take 1 field) []
+gap_by _ number field = []
 
 -- the blank that separates a field from the field before it, by the options
 abbrev pub gap_of : Options → ℕ → List ℕ → List ℕ
-gap_of options number field = gap_by (at_blanks options) number field
+gap_of options number field = gap_by options.separator number field
 
 -- the columns of a field between blanks: its bytes but the blank that separates it. A first field has none if no blank
 -- is before it
@@ -67,10 +67,10 @@ columns_of number field = cond (nat_lt 1 number) (length field - 1) (cond (begin
 
 -- the least number of columns of a size that replaces a field: that of the options; without one, and between blanks,
 -- the columns of the field
-abbrev pub width_by : Bool → ℕ → ℕ → List ℕ → ℕ
-width_by true width number field = cond (width == 0) (columns_of number field) width
-width_by false width number field = width
+abbrev pub columns_by : Option Separator → ℕ → ℕ → List ℕ → ℕ
+columns_by (Some Blanks) width number field = cond (width == 0) (columns_of number field) width
+columns_by _ width number field = width
 
 -- the least number of columns of a size in place of this field, by the options
-abbrev pub width_of : Options → ℕ → List ℕ → ℕ
-width_of options number field = width_by (at_blanks options) options.width number field
+abbrev pub columns_in : Options → ℕ → List ℕ → ℕ
+columns_in options number field = columns_by options.separator options.width number field

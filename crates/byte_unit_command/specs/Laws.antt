@@ -1,7 +1,7 @@
 -- Laws of the texts of sizes: what is formatted can be read again; and of totals.
 use Rattle.std.specs.Prelude.{◌≡◌, ℕ, ◌+◌, ◌*◌, ◌<◌, ⊤, true, min, List, ◌++◌, replicate, Some}
 use Rattle.byte_unit.specs.Bounds.{size_limit}
-use Rattle.byte_unit_command.specs.Field.{Found, ignores_case, without_suffix}
+use Rattle.byte_unit_command.specs.Field.{Found, without_suffix}
 use Rattle.byte_unit_command.specs.Prefixes.{IsAcceptedBy}
 use Rattle.byte_unit_command.specs.Formatted.{IsFormatted}
 use Rattle.byte_unit_command.specs.Sums.{tally_of}
@@ -20,8 +20,7 @@ IsLossless (Largest unit_type) = ⊥
 -- the text is parsed as this size by a run with these options
 abbrev pub IsReadAs : Options → List ℕ → ℕ → Type 0
 IsReadAs options text size =
-    IsAcceptedBy options.binary options.kind (ignores_case options.kind options.ignore_case)
-    (without_suffix options.suffix.now text) size
+    IsAcceptedBy options.binary options.kind options.ignore_case (without_suffix options.suffix.now text) size
 
 -- law: a size formatted in the exact form or as digits, without padding, is parsed as that size by a run with
 -- any options of the same kind and suffix, unless decimal prefixes mean binary ones in that run alone. So nothing is

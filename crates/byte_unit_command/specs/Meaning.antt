@@ -2,7 +2,7 @@
 -- given.
 use Rattle.std.specs.Prelude.{◌≡◌, ◌≢◌, ℕ, ◌<◌, ◌^◌, ◌⊎◌, Bool, true, false, List, [], ◌∷◌, Option, None, Some, codes}
 use Rattle.std.specs.Str.{trim}
-use Rattle.byte_unit.specs.Errors.{size_fault, unit_fault}
+use Rattle.byte_unit.specs.Errors.{unit_fault}
 use Rattle.byte_unit.specs.Fault.{IsUnitFault}
 use Rattle.byte_unit.specs.Kinds.{flags_for}
 use Rattle.byte_unit.specs.SizeText.{trim_of}
@@ -12,13 +12,15 @@ use Rattle.byte_unit.specs.Version.{current}
 use Rattle.byte_unit.specs.declared.Kind.{Kind}
 use Rattle.byte_unit.specs.declared.Unit.{Unit as UnitName}
 use Rattle.byte_unit.specs.declared.UnitType.TheVariants.{Decimal, Binary, Both}
-use Rattle.byte_unit_command.specs.Field.{ignores_case}
 use Rattle.byte_unit_command.specs.Positive.{IsPositive}
-use Rattle.byte_unit_command.specs.Prefixes.{IsAcceptedBy, IsRejectedBy}
+use Rattle.byte_unit_command.specs.Prefixes.{IsAcceptedBy, IsSizeError}
+use Rattle.byte_unit_command.specs.declared.meaning.Padding.{Padding}
 use Rattle.byte_unit_command.specs.declared.options.Form.{Form}
 use Rattle.byte_unit_command.specs.declared.options.Form.TheVariants.{Exact, Plain, InUnit, NumberOf, Largest}
 use Rattle.byte_unit_command.specs.declared.options.Invalid.{Invalid}
 use Rattle.byte_unit_command.specs.declared.options.Invalid.TheVariants.{Abort, Fail, Warn, Ignore}
+use Rattle.byte_unit_command.specs.declared.options.Separator.{Separator}
+use Rattle.byte_unit_command.specs.declared.options.Separator.TheVariants.{Byte}
 use Rattle.byte_unit_command.specs.declared.wrong.ValueError.{ValueError}
 use Rattle.byte_unit_command.specs.declared.wrong.ValueError.TheVariants.{Unit as UnitFault, Blank}
 use Rattle.byte_unit_command.specs.declared.wrong.ValueError.TheVariants.{Size}
@@ -72,22 +74,23 @@ IsOutputForm true Plain form = form ≡ Plain
 IsOutputForm true given form = ⊥
 
 -- `--delimiter`: one byte, or `\t` (92, 116) for a tab (9); nothing for none
-abbrev pub IsDelimiter : Option (List ℕ) → Option ℕ → Type 0
+abbrev pub IsDelimiter : Option (List ℕ) → Option Separator → Type 0
 IsDelimiter None delimiter = delimiter ≡ None
 IsDelimiter (Some text) delimiter =
     (text ≡ []) × (delimiter ≡ None)
-    ⊎ (((byte : ℕ) × (text ≡ byte ∷ []) × (delimiter ≡ Some byte)) ⊎ (text ≡ 92 ∷ 116 ∷ []) × (delimiter ≡ Some 9))
+    ⊎ (((byte : ℕ) × (text ≡ byte ∷ []) × (delimiter ≡ Some (Byte byte)))
+    ⊎ (text ≡ 92 ∷ 116 ∷ []) × (delimiter ≡ Some (Byte 9)))
 
 -- the text is a number from 1 to 65535
 abbrev pub IsWidth : List ℕ → ℕ → Type 0
 IsWidth text width = IsPositive text width × (width < 2 ^ 16)
 
 -- `--padding`: a width, and whether sizes are aligned to the left, which a hyphen (45) before it says
-abbrev pub IsPadding : Option (List ℕ) → ℕ × Bool → Type 0
-IsPadding None padding = (padding.0 ≡ 0) × (padding.1 ≡ false)
+abbrev pub IsPadding : Option (List ℕ) → Padding → Type 0
+IsPadding None padding = (padding.width ≡ 0) × (padding.align_left ≡ false)
 IsPadding (Some text) padding =
-    IsWidth text padding.0 × (padding.1 ≡ false)
-    ⊎ (digits : List ℕ) × (text ≡ 45 ∷ digits) × IsWidth digits padding.0 × (padding.1 ≡ true)
+    IsWidth text padding.width × (padding.align_left ≡ false)
+    ⊎ (digits : List ℕ) × (text ≡ 45 ∷ digits) × IsWidth digits padding.width × (padding.align_left ≡ true)
 
 -- the value of `--invalid` is the word for this mode; without the option the mode is `abort`
 abbrev pub IsMode : Option (List ℕ) → Invalid → Type 0
@@ -100,10 +103,10 @@ IsMode (Some text) invalid =
 abbrev pub IsLimit : Bool → Kind → Bool → Option (List ℕ) → Option ℕ → Type 0
 IsLimit binary kind ignore_case None limit = limit ≡ None
 IsLimit binary kind ignore_case (Some text) limit =
-    (size : ℕ) × IsAcceptedBy binary kind (ignores_case kind ignore_case) text size × (limit ≡ Some size)
+    (size : ℕ) × IsAcceptedBy binary kind ignore_case text size × (limit ≡ Some size)
 
 -- the text is no value of `--max` and `--min`, for this reason
 abbrev pub IsNoLimit : Bool → Kind → Bool → List ℕ → ValueError → Type 0
 IsNoLimit binary kind ignore_case text (Size error) =
-    IsRejectedBy binary kind (ignores_case kind ignore_case) text (size_fault error)
+    IsSizeError binary kind ignore_case text error
 IsNoLimit binary kind ignore_case text _ = ⊥

@@ -3,76 +3,75 @@ use Rattle.std.specs.Prelude.{◌≡◌, ℕ, Bool, true, false, IfSome, MatchBo
 use Rattle.std.specs.Prelude.{codes}
 use Rattle.std.specs.Fmt.{decimal}
 use Rattle.std.specs.Str.{IsUtf8}
-use Rattle.byte_unit.specs.ErrorPosition.{IsLocationOf, IsSizeLocation, location_words}
-use Rattle.byte_unit.specs.Errors.{size_fault}
+use Rattle.byte_unit.specs.ErrorPosition.{location_words}
 use Rattle.byte_unit.specs.FaultText.{parse_text}
 use Rattle.byte_unit_base.specs.Quoted.{quote}
-use Rattle.byte_unit_base.specs.declared.errors.Location.{Location}
-use Rattle.byte_unit_base.specs.declared.errors.Location.TheVariants.{Whole}
-use Rattle.byte_unit_command.specs.Field.{ignores_case, without_suffix}
-use Rattle.byte_unit_command.specs.Prefixes.{IsRejectedBy}
-use Rattle.byte_unit_command.specs.State.{Place}
+use Rattle.byte_unit_base.specs.declared.errors.LocatedError.{LocatedError}
+use Rattle.byte_unit_command.specs.Field.{without_suffix}
+use Rattle.byte_unit_command.specs.Prefixes.{IsSizeError}
+use Rattle.byte_unit_command.specs.State.{Context}
 use Rattle.byte_unit_command.specs.Sums.{is_above, is_below}
 use Rattle.byte_unit_command.specs.declared.notice.FieldError.{FieldError}
 use Rattle.byte_unit_command.specs.declared.notice.FieldError.TheVariants.{NotUtf8, Rejected, Above, Below}
 use Rattle.byte_unit_command.specs.declared.options.Invalid.{Invalid}
 use Rattle.byte_unit_command.specs.declared.options.Invalid.TheVariants.{Abort, Fail, Warn, Ignore}
 use Rattle.byte_unit_command.specs.declared.options.Options.{Options}
+use Rattle.byte_unit_command.specs.declared.options.Separator.{Separator}
 
--- the words for a reason. Those for a rejected field are the message of the error that the library has for it; where
--- the library's contract says nothing of its message, since it quotes a character that is not ASCII, nothing is said
+-- the words for an error of the parser: the message that the library has for it, and its location; where the library's
+-- contract says nothing of its message, since it quotes a character that is not ASCII, nothing is said of that
+abbrev pub AreErrorWords : LocatedError → List ℕ → Type 0
+AreErrorWords e words =
+    (message : List ℕ) × IfSome (parse_text e.error) (λ text. message ≡ text)
+    × (words ≡ message ++ location_words e.location)
+
+-- the words for a reason
 abbrev pub AreWords : FieldError → List ℕ → Type 0
 AreWords NotUtf8 words = words ≡ codes "not UTF-8"
-AreWords (Rejected e) words = IfSome (parse_text e.error) (λ text. words ≡ text)
+AreWords (Rejected e) words = AreErrorWords e words
 AreWords Above words = words ≡ codes "above the maximum"
 AreWords Below words = words ≡ codes "below the minimum"
 
--- the number of the field, if there is a delimiter
-abbrev pub field_text : Option ℕ → ℕ → List ℕ
+-- the number of the field, if fields are separated
+abbrev pub field_text : Option Separator → ℕ → List ℕ
 field_text None number = []
-field_text (Some delimiter) number = codes "field " ++ decimal number ++ codes ": "
+field_text (Some separator) number = codes "field " ++ decimal number ++ codes ": "
 
--- the beginning of a message: what a record is called, and its number
-abbrev pub record_text : Place → List ℕ
-record_text place = codes "byte-unit: " ++ (place.word ++ (codes " " ++ (decimal place.number ++ codes ": ")))
+-- what a record is called, and its number
+abbrev pub record_text : Context → List ℕ
+record_text context = codes "byte-unit: " ++ (context.word ++ (codes " " ++ (decimal context.number ++ codes ": ")))
 
 -- a field or a value in quotes, with a colon after it
 abbrev pub quoted_text : List ℕ → List ℕ
 quoted_text field = codes "'" ++ quote field ++ codes "': "
 
--- the place of a field
-abbrev pub place_text : Place → ℕ → List ℕ
-place_text place number = record_text place ++ field_text place.options.delimiter number
+-- the beginning of a message about the field with this number
+abbrev pub heading_text : Context → ℕ → List ℕ
+heading_text context number = record_text context ++ field_text context.options.separator number
 
--- where a field is wrong
-abbrev pub location_of : FieldError → Location
-location_of (Rejected e) = e.location
-location_of _ = Whole
-
--- a message about the field with this number, in the record at this place
-abbrev pub IsMessage : Place → ℕ → List ℕ → FieldError → List ℕ → Type 0
-IsMessage place number field reason text =
+-- a message about the field with this number, in the record with this context
+abbrev pub IsMessage : Context → ℕ → List ℕ → FieldError → List ℕ → Type 0
+IsMessage context number field reason text =
     (words : List ℕ) × AreWords reason words
-    × (text ≡ place_text place number ++ quoted_text field ++ words ++ location_words (location_of reason) ++ 10 ∷ [])
+    × (text ≡ heading_text context number ++ quoted_text field ++ words ++ 10 ∷ [])
 
 -- such a message if it is told, and else nothing
-abbrev pub IsMessageIf : Bool → Place → ℕ → List ℕ → FieldError → List ℕ → Type 0
-IsMessageIf told place number field reason text =
-    MatchBool told (IsMessage place number field reason text) (text ≡ [])
+abbrev pub IsMessageIf : Bool → Context → ℕ → List ℕ → FieldError → List ℕ → Type 0
+IsMessageIf told context number field reason text =
+    MatchBool told (IsMessage context number field reason text) (text ≡ [])
 
 -- the messages about a size: that it is above the maximum, and that it is below the minimum
-abbrev pub AreLimitMessages : Place → ℕ → List ℕ → ℕ → List ℕ → Type 0
-AreLimitMessages place number field size text =
-    (above below : List ℕ) × IsMessageIf (is_above place.options.max size) place number field Above above
-    × IsMessageIf (is_below place.options.min size) place number field Below below × (text ≡ above ++ below)
+abbrev pub AreLimitMessages : Context → ℕ → List ℕ → ℕ → List ℕ → Type 0
+AreLimitMessages context number field size text =
+    (above below : List ℕ) × IsMessageIf (is_above context.options.max size) context number field Above above
+    × IsMessageIf (is_below context.options.min size) context number field Below below × (text ≡ above ++ below)
 
 -- this is the reason why the field is not a size, with the location of the error in its text
 abbrev pub IsFieldError : Options → List ℕ → FieldError → Type 0
 IsFieldError options field NotUtf8 = ¬ IsUtf8 (without_suffix options.suffix.now field)
 IsFieldError options field (Rejected e) =
     let text = without_suffix options.suffix.now field in
-    IsUtf8 text × IsRejectedBy options.binary options.kind (ignores_case options.kind options.ignore_case) text
-    (size_fault e.error) × IsLocationOf (IsSizeLocation text) (size_fault e.error) e.location
+    IsUtf8 text × IsSizeError options.binary options.kind options.ignore_case text e
 IsFieldError options field _ = ⊥
 
 -- whether rejected fields are told
@@ -83,8 +82,8 @@ tells_rejected Warn = true
 tells_rejected Ignore = false
 
 -- the message about a field that is not a size, with the reason, if rejected fields are told
-abbrev pub IsRejectMessage : Place → ℕ → List ℕ → List ℕ → Type 0
-IsRejectMessage place number field text =
-    MatchBool (tells_rejected place.options.invalid)
-    ((reason : FieldError) × IsFieldError place.options field reason × IsMessage place number field reason text)
+abbrev pub IsRejectMessage : Context → ℕ → List ℕ → List ℕ → Type 0
+IsRejectMessage context number field text =
+    MatchBool (tells_rejected context.options.invalid)
+    ((reason : FieldError) × IsFieldError context.options field reason × IsMessage context number field reason text)
     (text ≡ [])

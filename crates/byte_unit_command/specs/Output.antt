@@ -5,7 +5,7 @@ use Rattle.byte_unit_command.specs.Field.{Found, IsNoSize, IsPlaced, IsSize}
 use Rattle.byte_unit_command.specs.Fields.{fields_of, between_of}
 use Rattle.byte_unit_command.specs.Messages.{AreLimitMessages, IsRejectMessage}
 use Rattle.byte_unit_command.specs.Ranges.{IsChosenField}
-use Rattle.byte_unit_command.specs.State.{Place}
+use Rattle.byte_unit_command.specs.State.{Context}
 use Rattle.byte_unit_command.specs.Sums.{has_rejected}
 use Rattle.byte_unit_command.specs.declared.options.Invalid.TheVariants.{Abort}
 use Rattle.byte_unit_command.specs.declared.options.Options.{Options}
@@ -22,22 +22,24 @@ copied text = record { text = text; found = []; messages = [] }
 
 -- what the field with this number gives: a field that is not chosen is copied; a size is replaced by its text, with
 -- messages if it is beyond a limit; a field that is not a size is copied too, with the message about it
-pub data IsField (place : Place) (number : ℕ) (field : List ℕ) (output : Output) : Type 0 where
-  other : ¬ IsChosenField place.options.fields.now number → output ≡ copied field → IsField place number field output
-  size : (n : ℕ) (text messages : List ℕ) → IsChosenField place.options.fields.now number → IsSize place.options field n
-      → IsPlaced place.options number field n text → AreLimitMessages place number field n messages
-      → output ≡ record { text = text; found = Some n ∷ []; messages = messages } → IsField place number field output
-  rejected : (messages : List ℕ) → IsChosenField place.options.fields.now number → IsNoSize place.options field
-      → IsRejectMessage place number field messages
-      → output ≡ record { text = field; found = None ∷ []; messages = messages } → IsField place number field output
+pub data IsField (context : Context) (number : ℕ) (field : List ℕ) (output : Output) : Type 0 where
+  other : ¬ IsChosenField context.options.fields.now number → output ≡ copied field
+      → IsField context number field output
+  size : (n : ℕ) (text messages : List ℕ) → IsChosenField context.options.fields.now number
+      → IsSize context.options field n → IsPlaced context.options number field n text
+      → AreLimitMessages context number field n messages
+      → output ≡ record { text = text; found = Some n ∷ []; messages = messages } → IsField context number field output
+  rejected : (messages : List ℕ) → IsChosenField context.options.fields.now number → IsNoSize context.options field
+      → IsRejectMessage context number field messages
+      → output ≡ record { text = field; found = None ∷ []; messages = messages } → IsField context number field output
 
 -- what these fields give, the first of which has this number
-abbrev pub AreFields : Place → ℕ → List (List ℕ) → List Output → Type 0
-AreFields place number [] [] = ⊤
-AreFields place number [] (output ∷ outputs) = ⊥
-AreFields place number (field ∷ fields) [] = ⊥
-AreFields place number (field ∷ fields) (output ∷ outputs) =
-    IsField place number field output × AreFields place (number + 1) fields outputs
+abbrev pub AreFields : Context → ℕ → List (List ℕ) → List Output → Type 0
+AreFields context number [] [] = ⊤
+AreFields context number [] (output ∷ outputs) = ⊥
+AreFields context number (field ∷ fields) [] = ⊥
+AreFields context number (field ∷ fields) (output ∷ outputs) =
+    IsField context number field output × AreFields context (number + 1) fields outputs
 
 -- texts with these bytes between each two
 abbrev pub joined : List ℕ → List (List ℕ) → List ℕ
@@ -63,14 +65,14 @@ together between outputs = record {
 
 -- what a record gives, without its end byte, if this number of header records begins with it: a header record is
 -- copied, and of any other the chosen fields are replaced
-abbrev pub IsRecord : Place → ℕ → List ℕ → Output → Type 0
-IsRecord place zero bytes output =
-    (outputs : List Output) × AreFields place 1 (fields_of place.options bytes) outputs
-    × (output ≡ together (between_of place.options) outputs)
-IsRecord place (suc _) bytes output = output ≡ copied bytes
+abbrev pub IsRecord : Context → ℕ → List ℕ → Output → Type 0
+IsRecord context zero bytes output =
+    (outputs : List Output) × AreFields context 1 (fields_of context.options bytes) outputs
+    × (output ≡ together (between_of context.options) outputs)
+IsRecord context (suc _) bytes output = output ≡ copied bytes
 
 -- the messages about these fields up to the first one that is rejected, which is one of them
-pub record AreMessagesToRejected (place : Place) (number : ℕ) (fields : List (List ℕ)) (messages : List ℕ)
+pub record AreMessagesToRejected (context : Context) (number : ℕ) (fields : List (List ℕ)) (messages : List ℕ)
     : Type 0 where
   pub before : List (List ℕ)
   pub field : List ℕ
@@ -78,9 +80,9 @@ pub record AreMessagesToRejected (place : Place) (number : ℕ) (fields : List (
   pub outputs : List Output
   pub own : Output
   pub fields_are : fields ≡ before ++ field ∷ after
-  pub are_fields : AreFields place number before outputs
+  pub are_fields : AreFields context number before outputs
   pub none_before : has_rejected (found_in outputs) ≡ false
-  pub is_field : IsField place (number + length before) field own
+  pub is_field : IsField context (number + length before) field own
   pub is_rejected : has_rejected own.found ≡ true
   pub messages_are : messages ≡ messages_in outputs ++ own.messages
 

@@ -10,8 +10,8 @@ use Rattle.clap.specs.declared.parser.matches.ArgMatches.{ArgMatches}
 use Rattle.byte_unit_command.specs.declared.values.Values.{Values}
 
 -- the kind of the sizes: bits with `--bits`, and bytes without it
-abbrev pub kind_of : Bool → Kind
-kind_of bits = if bits then Bit else Byte
+abbrev pub kind_by_flag : Bool → Kind
+kind_by_flag bits = if bits then Bit else Byte
 
 -- the text of a value
 abbrev pub text_of : Option (Bor (List ℕ)) → Option (List ℕ)
@@ -37,7 +37,7 @@ IsNumberValue bits (Some text) (Some number) = IsUnsigned bits text number
 
 -- these are the values of the options that clap has parsed
 pub record HasValues (matches : ArgMatches) (values : Values) : Type 0 where
-  pub kind : (bits : Bool) × IsFlag matches (codes "bits") bits × (values.kind ≡ kind_of bits)
+  pub kind : (bits : Bool) × IsFlag matches (codes "bits") bits × (values.kind ≡ kind_by_flag bits)
   pub ignore_case : IsFlag matches (codes "ignore-case") values.ignore_case
   pub human_readable : IsFlag matches (codes "human-readable") values.human_readable
   pub from : text_of values.from ≡ first_value (found_of matches) (codes "from")

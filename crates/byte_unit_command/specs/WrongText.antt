@@ -1,8 +1,8 @@
 -- The message about a wrong option.
 use Rattle.std.specs.Prelude.{◌≡◌, ℕ, List, [], ◌++◌, Option, None, Some, IfSome, codes}
 use Rattle.std.specs.Borrow.{Bor}
-use Rattle.byte_unit.specs.FaultText.{parse_text, unit_text}
-use Rattle.byte_unit_command.specs.Messages.{quoted_text}
+use Rattle.byte_unit.specs.FaultText.{unit_text}
+use Rattle.byte_unit_command.specs.Messages.{AreErrorWords, quoted_text}
 use Rattle.byte_unit_command.specs.declared.wrong.ValueError.{ValueError}
 use Rattle.byte_unit_command.specs.declared.wrong.ValueError.TheVariants.{Unit as UnitFault, Blank, NoUnit, Precision}
 use Rattle.byte_unit_command.specs.declared.wrong.ValueError.TheVariants.{From, Delimiter, NoDelimiter, Fields, Padding}
@@ -23,7 +23,7 @@ AreReasonWords NoDelimiter words = words ≡ codes "needs -d or --blanks, by whi
 AreReasonWords Fields words = words ≡ codes "not a list of fields"
 AreReasonWords Padding words = words ≡ codes "not a number from 1 to 65535, or its negative"
 AreReasonWords Mode words = words ≡ codes "not abort, fail, warn or ignore"
-AreReasonWords (Size error) words = IfSome (parse_text error) (λ text. words ≡ text)
+AreReasonWords (Size error) words = AreErrorWords error words
 
 -- the value of an option as a field is quoted, or nothing if there is no value to tell
 abbrev pub value_text : Option (Bor (List ℕ)) → List ℕ

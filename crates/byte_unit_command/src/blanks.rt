@@ -1,83 +1,62 @@
-//! Fields between blanks, or between delimiters.
+//! Fields that a byte or blanks separate.
 
 ghost use Rattle.std.specs.Prelude.{◌≡◌, ◌+◌, ◌-◌, ◌<◌, ◌≤◌, ◌∷◌, ◌&&◌, [], Some, not};
 ghost use Rattle.std.specs.Prelude.{cond, drop, length, take, true, IfSome, IfNone};
-ghost use Rattle.byte_unit_command.specs.Fields.{at_blanks, begins_blank as has_blank_first, between_of, blank_fields};
-ghost use Rattle.byte_unit_command.specs.Fields.{fields_of, gap_by, is_blank as is_a_blank, width_by};
+ghost use Rattle.byte_unit_command.specs.Fields.{EndsFirst, begins_blank as has_blank_first, between_by, blank_fields};
+ghost use Rattle.byte_unit_command.specs.Fields.{fields_by, gap_by, is_blank as is_a_blank, columns_by};
 
-use crate::options::Options;
+use crate::options::Separator;
 use byte_unit_stream::end_of;
 
-/// Returns the bytes between two fields: `mark`, which has the delimiter, or nothing between blanks, where each field
-/// begins with the blanks before it. Only the contract reads `options`.
-///
-/// Preconditions (proved at every call): `delimiter` is that of the options, and `blanks` says whether fields are
-/// between blanks.
+/// Returns the bytes between two fields: none between blanks, where each field begins with the blanks before it.
 #[inline(always)]
-pub(crate) fn between<'a>(
-    options: &Options,
-    blanks: bool,
-    delimiter: u8,
-    mark: &'a [u8],
-) -> &'a [u8]
-    requires delimiter { options.now.delimiter ≡ Some delimiter }
-    requires blanks { at_blanks options.now ≡ blanks }
-    requires mark { mark.now ≡ delimiter ∷ [] }
-    ensures { result.now ≡ between_of options.now }
+pub(crate) fn between(separator: &Separator) -> &[u8]
+    ensures { result.now ≡ between_by (Some separator.now) }
 {
-    if blanks { &[] } else { mark }
+    match separator {
+        Separator::Byte(byte) => std::slice::from_ref(byte),
+        Separator::Blanks => &[],
+    }
 }
 
-/// Returns the number of bytes of the first field, or `None` if there is no other field. Only the contract reads
-/// `options`.
-///
-/// Preconditions (proved at every call): `delimiter` is that of the options, and `blanks` says whether fields are
-/// between blanks.
+/// Returns the number of bytes of the first field, or `None` if there is no other field.
 #[inline(always)]
-pub(crate) fn end_of_first(
-    options: &Options,
-    blanks: bool,
-    delimiter: u8,
-    bytes: &[u8],
-) -> Option<usize>
-    requires delimiter { options.now.delimiter ≡ Some delimiter }
-    requires blanks { at_blanks options.now ≡ blanks }
-    ensures some { IfSome result (λ n. (0 < n + length (between_of options.now))
-        × (n + length (between_of options.now) ≤ length bytes.now)
-        × (fields_of options.now bytes.now ≡ take n bytes.now
-        ∷ fields_of options.now (drop (n + length (between_of options.now)) bytes.now))) }
-    ensures none { IfNone result (fields_of options.now bytes.now ≡ bytes.now ∷ []) }
+pub(crate) fn end_of_first(separator: Separator, bytes: &[u8]) -> Option<usize>
+    ensures some { IfSome result (EndsFirst (Some separator) bytes.now) }
+    ensures none { IfNone result (fields_by (Some separator) bytes.now ≡ bytes.now ∷ []) }
 {
-    if blanks {
-        return end_of_field(bytes);
+    match separator {
+        Separator::Byte(byte) => end_of(bytes, byte),
+        Separator::Blanks => end_of_field(bytes),
     }
-    end_of(bytes, delimiter)
 }
 
 /// Returns the least number of columns of a size that replaces the field with this number. Without a width, a size
 /// between blanks takes the columns of the field.
 #[inline(always)]
-pub(crate) fn width_of<const BLANKS: bool>(options: &Options, number: u64, field: &[u8]) -> usize
-    ensures { result ≡ width_by BLANKS options.now.width number field.now }
+pub(crate) fn columns_in(
+    separator: Option<Separator>,
+    width: u16,
+    number: u64,
+    field: &[u8],
+) -> usize
+    ensures { result ≡ columns_by separator width number field.now }
 {
-    if BLANKS && options.width == 0 {
-        return columns_of(number > 1, field);
+    match separator {
+        Some(Separator::Blanks) if width == 0 => columns_of(number > 1, field),
+        _ => width as usize,
     }
-    options.width as usize
 }
 
 /// Returns the blank before a field that separates it from the field before it; nothing for the first field, and if
 /// fields are not between blanks.
 #[inline(always)]
-pub(crate) fn gap_of<const BLANKS: bool>(number: u64, field: &[u8]) -> &[u8]
-    ensures { result.now ≡ gap_by BLANKS number field.now }
+pub(crate) fn gap_of(separator: Option<Separator>, number: u64, field: &[u8]) -> &[u8]
+    ensures { result.now ≡ gap_by separator number field.now }
 {
-    if !BLANKS || number <= 1 {
-        return &[];
-    }
-    match field {
-        [] => &[],
-        [_, ..] => &field[..1],
+    match (separator, field) {
+        (Some(Separator::Blanks), [_, ..]) if number > 1 => &field[..1],
+        _ => &[],
     }
 }
 

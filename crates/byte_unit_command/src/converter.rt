@@ -2,18 +2,18 @@
 
 ghost use Rattle.std.specs.Prelude.{◌≡◌, ◌+◌, ◌≤◌, ◌∷◌, ℕ, [], Some, MatchResult, IsTrue, IsFalse};
 ghost use Rattle.byte_unit_command.specs.Field.{IsNoSize};
-ghost use Rattle.byte_unit_command.specs.Fields.{at_blanks, fields_of};
+ghost use Rattle.byte_unit_command.specs.Fields.{fields_of};
 ghost use Rattle.byte_unit_command.specs.Ranges.{AreApart, AreRangesFrom, GoesTo, InRange, IsChosenField};
 ghost use Rattle.byte_unit_command.specs.CallEnds.{Ends, IsEarlyAt, Keeps, TellsLimits, state_of};
 ghost use Rattle.byte_unit_command.specs.Converted.{converting};
 ghost use Rattle.byte_unit_stream.specs.Steps.{Adds};
 ghost use Rattle.byte_unit_stream.specs.declared.run.RunError.{RunError};
 
-use crate::blanks::{between, end_of_first, gap_of, width_of};
-use crate::error::{Reason, RunError, RunResult};
+use crate::blanks::{between, columns_in, end_of_first, gap_of};
+use crate::error::{EndReason, RunError, RunResult};
 use crate::field_list::FieldList;
-use crate::notice::{Notices, Place, add_limit_notice, add_reject_notice};
-use crate::options::{FieldRange, Invalid, Options};
+use crate::notice::{Context, Notices, add_limit_notice, add_reject_notice};
+use crate::options::{FieldRange, Invalid, Options, Separator};
 use crate::size::accepted;
 use crate::tally::Tally;
 use crate::text::{DIGITS, add_in_width};
@@ -22,8 +22,8 @@ use std::alloc::Allocator;
 /// Converts records. Keeps how far the run has come, and what is not written yet.
 #[derive(Drop)]
 pub(crate) struct Converter<'a, A: Allocator> {
-    /// The options of the run, what a record is called, and the number of the last one.
-    pub place: Place<'a>,
+    /// The context of the last record.
+    pub context: Context<'a>,
     /// The number of header records that are still to come.
     pub header: u64,
     /// What was counted so far.
@@ -45,17 +45,14 @@ impl<'a, A: Allocator> Converter<'a, A> {
     /// - `Memory` if allocation fails.
     ///
     /// Then a part of it may have been appended, and the messages up to that on the rejected field.
-    ///
-    /// `#[inline(always)]`, as on what it calls for each record and each field: the calls would take more instructions.
-    /// What is rare, and the loop over fields, is `#[inline(never)]`, so that it costs a record of one field nothing.
     #[inline(always)]
     pub(crate) fn append_record(&mut self, bytes: &[u8]) -> RunResult
         ensures { MatchResult result
             (λ _. Adds converting bytes.now (state_of self.old) (state_of self.new))
             (IsEarlyAt bytes.now (state_of self.old) (state_of self.new)) }
     {
-        let options = self.place.options;
-        self.place.number = self.place.number.saturating_add(1);
+        let options = self.context.options;
+        self.context.number = self.context.number.saturating_add(1);
         if self.header > 0 {
             self.header -= 1;
             self.waiting.extend_from_slice(bytes)?;
@@ -74,42 +71,49 @@ impl<'a, A: Allocator> Converter<'a, A> {
     /// - `Memory` if allocation fails.
     #[inline(always)]
     fn add_fields(&mut self, bytes: &[u8]) -> RunResult
-        ensures { Ends 1 (fields_of self.old.place.options.now bytes.now)
+        ensures { Ends 1 (fields_of self.old.context.options.now bytes.now)
             (state_of self.old) (state_of self.new) result }
     {
-        let options = self.place.options;
-        match options.delimiter {
+        let options = self.context.options;
+        match options.separator {
             // The whole record is field 1.
-            None => self.add_field::<false>(1, bytes, chooses_first(options.fields)),
-            Some(delimiter) if options.blanks => self.add_split::<true>(delimiter, bytes),
-            Some(delimiter) => self.add_split::<false>(delimiter, bytes),
+            None => self.add_field(None, 1, bytes, chooses_first(options.fields)),
+            Some(separator) => self.add_separated(separator, bytes),
         }
     }
 
-    /// Does what [`add_fields`](Converter::add_fields) does, with the fields between delimiters or blanks. After the
-    /// last chosen field, copies the rest at once.
-    ///
-    /// Preconditions (proved at every call): `delimiter` is that of the options, and `BLANKS` says whether fields are
-    /// between blanks.
+    /// Does what [`add_split`](Converter::add_split) does, by a loop for each separator.
     #[inline(never)]
-    fn add_split<const BLANKS: bool>(&mut self, delimiter: u8, bytes: &[u8]) -> RunResult
-        requires delimiter { self.old.place.options.now.delimiter ≡ Some delimiter }
-        requires blanks { at_blanks self.old.place.options.now ≡ BLANKS }
-        ensures { Ends 1 (fields_of self.old.place.options.now bytes.now)
+    fn add_separated(&mut self, separator: Separator, bytes: &[u8]) -> RunResult
+        requires { self.old.context.options.now.separator ≡ Some separator }
+        ensures { Ends 1 (fields_of self.old.context.options.now bytes.now)
+            (state_of self.old) (state_of self.new) result }
+    {
+        match separator {
+            Separator::Byte(byte) => self.add_split(Separator::Byte(byte), bytes),
+            Separator::Blanks => self.add_split(Separator::Blanks, bytes),
+        }
+    }
+
+    /// Does what [`add_fields`](Converter::add_fields) does, for fields that are separated. After the last chosen
+    /// field, copies the rest at once.
+    ///
+    /// Precondition (proved at every call): `separator` is that of the options.
+    #[inline(always)]
+    fn add_split(&mut self, separator: Separator, bytes: &[u8]) -> RunResult
+        requires { self.old.context.options.now.separator ≡ Some separator }
+        ensures { Ends 1 (fields_of self.old.context.options.now bytes.now)
             (state_of self.old) (state_of self.new) result }
     {
         // For the proof: there are fewer fields than a `u64` counts.
         let _len = bytes.len();
-        let options = self.place.options;
-        let fields = ranges_after(options.fields.as_slice(), 0);
-        let mark = [delimiter];
-        let between = between(options, BLANKS, delimiter, &mark);
-        let mut ranges = fields;
+        let between = between(&separator);
+        let mut ranges = ranges_after(self.context.options.fields.as_slice(), 0);
         let mut rest = bytes;
         let mut number = 1u64;
-        while let Some(n) = end_of_first(options, BLANKS, delimiter, rest) {
+        while let Some(n) = end_of_first(separator, rest) {
             let chosen = is_chosen(ranges, number);
-            self.add_field::<BLANKS>(number, &rest[..n], chosen)?;
+            self.add_field(Some(separator), number, &rest[..n], chosen)?;
             self.waiting.extend_from_slice(between)?;
             rest = &rest[n + between.len()..];
             ranges = ranges_after(ranges, number);
@@ -120,42 +124,43 @@ impl<'a, A: Allocator> Converter<'a, A> {
             }
         }
         let chosen = is_chosen(ranges, number);
-        self.add_field::<BLANKS>(number, rest, chosen)
+        self.add_field(Some(separator), number, rest, chosen)
     }
 
     /// Appends what is written for the field with this number, and counts what is found in it.
     ///
-    /// Preconditions (proved at every call): `chosen` says whether the field is chosen, and `BLANKS` whether fields are
-    /// between blanks.
+    /// Preconditions (proved at every call): `separator` is that of the options, and `chosen` says whether the field is
+    /// chosen.
     ///
     /// # Errors
     ///
     /// - `Ended` for `Rejected` if the field is not a size, in the mode `abort`.
     /// - `Memory` if allocation fails.
     #[inline(always)]
-    fn add_field<const BLANKS: bool>(
+    fn add_field(
         &mut self,
+        separator: Option<Separator>,
         number: u64,
         field: &[u8],
         chosen: bool,
     ) -> RunResult
-        requires blanks { at_blanks self.old.place.options.now ≡ BLANKS }
-        requires yes { IsTrue chosen → IsChosenField self.old.place.options.now.fields.now number }
-        requires no { IsFalse chosen → ¬ IsChosenField self.old.place.options.now.fields.now number }
+        requires separator { self.old.context.options.now.separator ≡ separator }
+        requires yes { IsTrue chosen → IsChosenField self.old.context.options.now.fields.now number }
+        requires no { IsFalse chosen → ¬ IsChosenField self.old.context.options.now.fields.now number }
         ensures { Ends number (field.now ∷ []) (state_of self.old) (state_of self.new) result }
     {
         if !chosen {
             self.waiting.extend_from_slice(field)?;
             return Ok(());
         }
-        let options = self.place.options;
+        let options = self.context.options;
         let Some(size) = accepted(options, field) else {
             return self.add_rejected(number, field);
         };
         self.count(number, field, size)?;
         self.waiting
-            .extend_from_slice(gap_of::<BLANKS>(number, field))?;
-        let width = width_of::<BLANKS>(options, number, field);
+            .extend_from_slice(gap_of(separator, number, field))?;
+        let width = columns_in(separator, options.width, number, field);
         add_in_width(options, width, size, &mut self.digits, &mut self.waiting)?;
         Ok(())
     }
@@ -171,8 +176,8 @@ impl<'a, A: Allocator> Converter<'a, A> {
             (λ _. TellsLimits number field.now size (state_of self.old) (state_of self.new))
             (λ error. (error ≡ RunError.Memory) × Keeps (state_of self.old) (state_of self.new)) }
     {
-        if self.tally.add(self.place.options, size) {
-            add_limit_notice(&self.place, number, field, size, &mut self.notices)?;
+        if self.tally.add(self.context.options, size) {
+            add_limit_notice(&self.context, number, field, size, &mut self.notices)?;
         }
         Ok(())
     }
@@ -183,13 +188,13 @@ impl<'a, A: Allocator> Converter<'a, A> {
     #[cold]
     #[inline(never)]
     fn add_rejected(&mut self, number: u64, field: &[u8]) -> RunResult
-        requires chosen { IsChosenField self.old.place.options.now.fields.now number }
-        requires none { IsNoSize self.old.place.options.now field.now }
+        requires chosen { IsChosenField self.old.context.options.now.fields.now number }
+        requires none { IsNoSize self.old.context.options.now field.now }
         ensures { Ends number (field.now ∷ []) (state_of self.old) (state_of self.new) result }
     {
-        add_reject_notice(&self.place, number, field, &mut self.notices)?;
-        if self.place.options.invalid == Invalid::Abort {
-            return Err(RunError::Ended(Reason::Rejected));
+        add_reject_notice(&self.context, number, field, &mut self.notices)?;
+        if self.context.options.invalid == Invalid::Abort {
+            return Err(RunError::Ended(EndReason::Rejected));
         }
         self.tally.reject();
         self.waiting.extend_from_slice(field)?;
@@ -198,8 +203,6 @@ impl<'a, A: Allocator> Converter<'a, A> {
 }
 
 /// Returns `true` if the first field is in the list.
-///
-/// `#[inline(never)]`: with it inlined, a record of one field takes 5 % more instructions.
 #[inline(never)]
 fn chooses_first(fields: &FieldList) -> bool
     ensures yes { IsTrue result → IsChosenField fields.now 1 }

@@ -3,7 +3,7 @@
 ghost use Rattle.std.specs.Prelude.{◌≡◌, option_map};
 ghost use Rattle.byte_unit_command.specs.Ending.{status_of, message_of};
 
-use crate::error::{Reason, RunError};
+use crate::error::{EndReason, RunError};
 use crate::options::Invalid;
 use crate::tally::Tally;
 
@@ -37,7 +37,7 @@ pub fn message(error: RunError) -> Option<&'static str>
         RunError::Memory => Some("out of memory"),
         RunError::Read => Some("read failed"),
         RunError::Write => Some("write failed"),
-        RunError::Ended(Reason::Rejected) => None,
-        RunError::Ended(Reason::Total) => Some("the total is 10^30 or more"),
+        RunError::Ended(EndReason::Rejected) => None,
+        RunError::Ended(EndReason::Total) => Some("the total is 10^30 or more"),
     }
 }

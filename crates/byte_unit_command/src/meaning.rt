@@ -1,44 +1,57 @@
 //! What the values of the options of a call mean.
 
-ghost use Rattle.std.specs.Prelude.{◌≡◌, ℕ, Bool, Some, MatchOption, MatchResult, IfOk, IfErr, codes};
+ghost use Rattle.std.specs.Prelude.{◌≡◌, ℕ, List, Some, MatchOption, MatchResult, IfOk, IfErr, codes};
 ghost use Rattle.byte_unit_command.specs.CallOptions.{AreOptions, IsFirstWrong, IsWrongOf};
 ghost use Rattle.byte_unit_command.specs.CallOptions.{IsFormOf, IsWithinExact, IsWrongForm};
 ghost use Rattle.byte_unit_command.specs.CallOptions.{IsWrongNoUnit, AreFieldsSeparated};
-ghost use Rattle.byte_unit_command.specs.CallOptions.{IsSeparator, IsWrongSeparator};
-ghost use Rattle.byte_unit_command.specs.Field.{ignores_case};
+ghost use Rattle.byte_unit_command.specs.CallOptions.{IsSeparator, IsWrongSeparator, IsWrongList, ranges_of};
 ghost use Rattle.byte_unit_command.specs.Meaning.{IsFrom, IsOutputForm};
 ghost use Rattle.byte_unit_command.specs.Meaning.{IsUnitName, IsNoUnitName};
 ghost use Rattle.byte_unit_command.specs.Meaning.{IsPadding, IsWidth};
 ghost use Rattle.byte_unit_command.specs.Meaning.{IsMode, MeansNothing, IsLimit, IsNoLimit};
-ghost use Rattle.byte_unit_command.specs.Prefixes.{IsReadingBy};
 ghost use Rattle.byte_unit_command.specs.Values.{text_of};
+ghost use Rattle.byte_unit_command.specs.declared.meaning.Padding.{Padding};
+ghost use Rattle.byte_unit_command.specs.declared.options.FieldRange.{FieldRange};
 
 use crate::field_list::{FieldList, positive_of};
-use crate::options::{Form, Invalid, Kind, Options, Unit, UnitType};
-use crate::size::ignores_case;
+use crate::options::{Form, Invalid, Kind, Options, Separator, Unit, UnitType};
+use crate::size::explain;
 use crate::values::Values;
 use crate::wrong::{ValueError, Wrong};
-use byte_unit_base::{ParseError, size};
 
 /// The most digits after the point that the exact form has: the library takes a greater precision as 28.
 const DECIMAL_PLACES: u16 = 28;
 
-/// Returns the options of a call. `fields` are those that `field_list::fields_of` returned.
+/// The value of `--padding`.
+#[derive(Clone, Copy)]
+pub(crate) struct Padding {
+    /// The least number of bytes of a size; 0 for none.
+    width: u16,
+    /// Whether sizes are aligned to the left.
+    align_left: bool,
+}
+
+/// Returns the options of a call. `fields` is what `field_list::fields_of` returned for the value of `--field`.
 ///
 /// # Errors
 ///
 /// Returns the first option that is wrong, in the order of `--from`, `--to`, `--precision`, `--no-unit`, `--delimiter`,
 /// `--field`, `--padding`, `--invalid`, `--max` and `--min`.
-pub fn options_of<'a>(values: &Values<'a>, fields: &'a FieldList) -> Result<Options<'a>, Wrong<'a>>
-    ensures ok { IfOk result (AreOptions values.now fields.now) }
-    ensures err { IfErr result (IsFirstWrong values.now) }
+pub fn options_of<'a>(
+    values: &Values<'a>,
+    fields: Option<&'a FieldList>,
+) -> Result<Options<'a>, Wrong<'a>>
+    ensures ok { IfOk result (λ options. (ranges : List FieldRange)
+        × (ranges_of fields.entry ≡ Some ranges) × AreOptions values.now ranges options) }
+    ensures err { IfErr result (IsFirstWrong values.now fields.entry) }
 {
     let kind = values.kind;
     let binary = from_of(values.from)?;
     let given = form_of(values)?;
     let form = output_form(values.no_unit, given)?;
-    let delimiter = separator_of(values)?;
-    let (width, align_left) = padding_of(values.padding)?;
+    let separator = separator_of(values)?;
+    let fields = listed(values, fields)?;
+    let padding = padding_of(values.padding)?;
     let invalid = invalid_of(values.invalid)?;
     let max = limit_of("--max", values.max, binary, kind, values.ignore_case)?;
     let min = limit_of("--min", values.min, binary, kind, values.ignore_case)?;
@@ -55,10 +68,9 @@ pub fn options_of<'a>(values: &Values<'a>, fields: &'a FieldList) -> Result<Opti
             None => { if values.human_readable { Some(1) } else { None } }
         },
         suffix: values.suffix.unwrap_or("").as_bytes(),
-        width,
-        align_left,
-        delimiter,
-        blanks: values.blanks,
+        width: padding.width,
+        align_left: padding.align_left,
+        separator,
         fields,
         // Each operand ends with a zero byte, and none is a header.
         record_end: if values.has_operands { 0 } else { output_end },
@@ -136,7 +148,7 @@ fn form_of<'a>(values: &Values<'a>) -> Result<Form, Wrong<'a>>
         "si" => Ok(Form::Largest(UnitType::Decimal)),
         "iec" => Ok(Form::Largest(UnitType::Binary)),
         "auto" => Ok(Form::Largest(UnitType::Both)),
-        _ => match unit_of(value, values.kind, values.ignore_case) {
+        _ => match unit_named(value, values.kind, values.ignore_case) {
             Ok(unit) => Ok(Form::InUnit(unit)),
             Err(reason) => Err(wrong("--to", value, reason)),
         },
@@ -168,7 +180,7 @@ fn output_form<'a>(no_unit: bool, given: Form) -> Result<Form, Wrong<'a>>
 
 /// Returns the unit that a value spells. White space alone, which the library parses as the unit without a prefix, is
 /// not a unit here.
-fn unit_of(value: &str, kind: Kind, ignore_case: bool) -> Result<Unit, ValueError>
+fn unit_named(value: &str, kind: Kind, ignore_case: bool) -> Result<Unit, ValueError>
     ensures { MatchResult result (IsUnitName kind ignore_case value.now)
         (IsNoUnitName kind ignore_case value.now) }
 {
@@ -186,14 +198,13 @@ fn unit_of(value: &str, kind: Kind, ignore_case: bool) -> Result<Unit, ValueErro
     }
 }
 
-/// Returns the byte between two fields: a space if they are between blanks, and else the delimiter. Returns `None` if a
-/// record is one field.
+/// Returns what separates fields: blanks, or else the delimiter. Returns `None` if a record is one field.
 ///
 /// # Errors
 ///
 /// Returns an error if the delimiter is not empty, one byte or `\t`, or if `--field` is given and nothing separates the
 /// fields.
-fn separator_of<'a>(values: &Values<'a>) -> Result<Option<u8>, Wrong<'a>>
+fn separator_of<'a>(values: &Values<'a>) -> Result<Option<Separator>, Wrong<'a>>
     ensures ok { IfOk result (λ separator. IsSeparator values.now separator
         × AreFieldsSeparated values.now) }
     ensures err { IfErr result (IsWrongSeparator values.now) }
@@ -202,13 +213,13 @@ fn separator_of<'a>(values: &Values<'a>) -> Result<Option<u8>, Wrong<'a>>
         None => None,
         Some(value) => match value.as_bytes() {
             [] => None,
-            [byte] => Some(*byte),
-            b"\\t" => Some(b'\t'),
+            [byte] => Some(Separator::Byte(*byte)),
+            b"\\t" => Some(Separator::Byte(b'\t')),
             _ => return Err(wrong("--delimiter", value, ValueError::Delimiter)),
         },
     };
     if values.blanks {
-        return Ok(Some(b' '));
+        return Ok(Some(Separator::Blanks));
     }
     if values.field.is_some() && values.delimiter.is_none() {
         return Err(Wrong {
@@ -220,34 +231,64 @@ fn separator_of<'a>(values: &Values<'a>) -> Result<Option<u8>, Wrong<'a>>
     Ok(delimiter)
 }
 
+/// Returns the fields that are converted.
+///
+/// # Errors
+///
+/// Returns an error if the value of `--field` is not a list of fields.
+fn listed<'a>(
+    values: &Values<'a>,
+    fields: Option<&'a FieldList>,
+) -> Result<&'a FieldList, Wrong<'a>>
+    ensures ok { IfOk result (λ list. ranges_of fields.entry ≡ Some list.now) }
+    ensures err { IfErr result (IsWrongList values.now fields.entry) }
+{
+    match fields {
+        Some(fields) => Ok(fields),
+        None => Err(Wrong {
+            option: "--field",
+            value: values.field,
+            reason: ValueError::Fields,
+        }),
+    }
+}
+
 /// Returns the width, and whether sizes are aligned to the left.
 ///
 /// # Errors
 ///
 /// Returns an error if the value is not a number from 1 to 65535, or its negative.
-fn padding_of(value: Option<&str>) -> Result<(u16, bool), Wrong<'_>>
+fn padding_of(value: Option<&str>) -> Result<Padding, Wrong<'_>>
     ensures ok { IfOk result (IsPadding (text_of value.entry)) }
     ensures err { IfErr result
         (IsWrongOf (codes "--padding") value.entry (MeansNothing IsPadding ValueError.Padding)) }
 {
     let Some(value) = value else {
-        // No width.
-        return Ok((0, false));
+        return Ok(Padding {
+            width: 0,
+            align_left: false,
+        });
     };
-    match signed_width_of(value) {
+    match signed_width(value) {
         Some(padding) => Ok(padding),
         None => Err(wrong("--padding", value, ValueError::Padding)),
     }
 }
 
 /// Parses a width, and whether a hyphen before it aligns sizes to the left. Returns `None` if the text is neither.
-fn signed_width_of(text: &str) -> Option<(u16, bool)>
-    ensures { MatchOption result ((padding : ℕ × Bool) → ¬ IsPadding (Some text.now) padding)
+fn signed_width(text: &str) -> Option<Padding>
+    ensures { MatchOption result ((padding : Padding) → ¬ IsPadding (Some text.now) padding)
         (IsPadding (Some text.now)) }
 {
     match text.strip_prefix('-') {
-        Some(digits) => Some((width_of(digits)?, true)),
-        None => Some((width_of(text)?, false)),
+        Some(digits) => Some(Padding {
+            width: width_of(digits)?,
+            align_left: true,
+        }),
+        None => Some(Padding {
+            width: width_of(text)?,
+            align_left: false,
+        }),
     }
 }
 
@@ -300,20 +341,10 @@ fn limit_of<'a>(
     let Some(value) = value else {
         return Ok(None);
     };
-    match parse_size(value, binary, kind, ignore_case) {
-        Ok(size) => Ok(Some(size)),
-        Err(error) => Err(wrong(option, value, ValueError::Size(error))),
-    }
-}
-
-/// Parses a size of a kind. Decimal prefixes mean binary ones if `binary` is set.
-fn parse_size(text: &str, binary: bool, kind: Kind, ignore_case: bool) -> Result<u128, ParseError>
-    ensures { IsReadingBy binary kind (ignores_case kind ignore_case) text.now result }
-{
-    let ignore_case = ignores_case(kind, ignore_case);
-    if binary {
-        size::parse::<true>(text, ignore_case, kind)
-    } else {
-        size::parse::<false>(text, ignore_case, kind)
+    match explain(binary, kind, ignore_case, value.as_bytes()) {
+        Some(Ok(size)) => Ok(Some(size)),
+        Some(Err(error)) => Err(wrong(option, value, ValueError::Size(error))),
+        // Never: a string is UTF-8.
+        None => Ok(None),
     }
 }

@@ -4,20 +4,20 @@ ghost use Rattle.std.specs.Prelude.{◌≡◌, ◌++◌, List, ℕ, Option, OnOk
 ghost use Rattle.std.specs.String.{string_bytes};
 ghost use Rattle.byte_unit_command.specs.Field.{IsNoSize};
 ghost use Rattle.byte_unit_command.specs.Messages.{AreLimitMessages, AreWords, IsRejectMessage};
-ghost use Rattle.byte_unit_command.specs.Messages.{IsMessage, IsMessageIf, IsFieldError, location_of};
-ghost use Rattle.byte_unit_command.specs.Messages.{place_text, quoted_text, tells_rejected as has_rejected_told};
-ghost use Rattle.byte_unit_command.specs.CallEnds.{messages_of, place_of};
+ghost use Rattle.byte_unit_command.specs.Messages.{AreErrorWords, IsMessage, IsMessageIf, IsFieldError};
+ghost use Rattle.byte_unit_command.specs.Messages.{heading_text, quoted_text, tells_rejected as has_rejected_told};
+ghost use Rattle.byte_unit_command.specs.CallEnds.{messages_of, context_of};
 ghost use Rattle.byte_unit_stream.specs.Beginnings.{IsBeginningOf};
 
 use crate::options::{Invalid, Options};
-use crate::size::explain;
-use byte_unit_base::{LocatedError, Location, Quoted};
+use crate::size::{explain, without_suffix};
+use byte_unit_base::{LocatedError, Quoted};
 use std::alloc::{AllocError, Allocator};
 use std::fmt::Write;
 
-/// The place of a record: what a message about a field of it needs beside the field.
+/// The context of a record: what says how its fields are converted, and where they are.
 #[derive(Clone, Copy)]
-pub(crate) struct Place<'a> {
+pub(crate) struct Context<'a> {
     /// The options of the run.
     pub options: &'a Options<'a>,
     /// What a record is called: `line`, `record` or `operand`.
@@ -58,22 +58,22 @@ enum FieldError {
 ///
 /// Returns `AllocError` if allocation fails. Nothing is appended then.
 pub(crate) fn add_reject_notice<A: Allocator>(
-    place: &Place,
+    context: &Context,
     number: u64,
     field: &[u8],
     notices: &mut Notices<A>,
 ) -> Result<(), AllocError>
-    requires { IsNoSize place.now.options.now field.now }
+    requires { IsNoSize context.now.options.now field.now }
     ensures ok { OnOk result ((text : List ℕ)
-        × IsRejectMessage (place_of place.now) number field.now text
+        × IsRejectMessage (context_of context.now) number field.now text
         × (messages_of notices.new ≡ messages_of notices.old ++ text)) }
     ensures kept { IsBeginningOf (messages_of notices.old) (messages_of notices.new) }
 {
-    if !tells_rejected(place.options.invalid) {
+    if !tells_rejected(context.options.invalid) {
         return Ok(());
     }
-    let reason = reason_of(place.options, field);
-    add_message(place, number, field, &reason, notices)
+    let reason = reason_of(context.options, field);
+    add_message(context, number, field, &reason, notices)
 }
 
 /// Returns `true` if there are messages about rejected fields.
@@ -93,7 +93,8 @@ fn reason_of(options: &Options, field: &[u8]) -> FieldError
     requires { IsNoSize options.now field.now }
     ensures { IsFieldError options.now field.now result }
 {
-    match explain(options, field) {
+    let text = without_suffix(options.suffix, field);
+    match explain(options.binary, options.kind, options.ignore_case, text) {
         Some(Err(error)) => FieldError::Rejected(error),
         // Never: a field that is parsed as a size is one.
         Some(Ok(_)) => FieldError::NotUtf8,
@@ -109,21 +110,21 @@ fn reason_of(options: &Options, field: &[u8]) -> FieldError
 #[cold]
 #[inline(never)]
 pub(crate) fn add_limit_notice<A: Allocator>(
-    place: &Place,
+    context: &Context,
     number: u64,
     field: &[u8],
     size: u128,
     notices: &mut Notices<A>,
 ) -> Result<(), AllocError>
     ensures ok { OnOk result ((text : List ℕ)
-        × AreLimitMessages (place_of place.now) number field.now size text
+        × AreLimitMessages (context_of context.now) number field.now size text
         × (messages_of notices.new ≡ messages_of notices.old ++ text)) }
     ensures kept { IsBeginningOf (messages_of notices.old) (messages_of notices.new) }
 {
-    let above = place.options.max.is_some_and(|most| most < size);
-    let below = place.options.min.is_some_and(|least| size < least);
-    add_message_if(above, place, number, field, &FieldError::Above, notices)?;
-    add_message_if(below, place, number, field, &FieldError::Below, notices)
+    let above = context.options.max.is_some_and(|most| most < size);
+    let below = context.options.min.is_some_and(|least| size < least);
+    add_message_if(above, context, number, field, &FieldError::Above, notices)?;
+    add_message_if(below, context, number, field, &FieldError::Below, notices)
 }
 
 /// Appends a message if it is to be told.
@@ -133,19 +134,19 @@ pub(crate) fn add_limit_notice<A: Allocator>(
 /// Returns `AllocError` if allocation fails. Nothing is appended then.
 fn add_message_if<A: Allocator>(
     told: bool,
-    place: &Place,
+    context: &Context,
     number: u64,
     field: &[u8],
     reason: &FieldError,
     notices: &mut Notices<A>,
 ) -> Result<(), AllocError>
     ensures ok { OnOk result ((text : List ℕ)
-        × IsMessageIf told (place_of place.now) number field.now reason.now text
+        × IsMessageIf told (context_of context.now) number field.now reason.now text
         × (messages_of notices.new ≡ messages_of notices.old ++ text)) }
     ensures kept { IsBeginningOf (messages_of notices.old) (messages_of notices.new) }
 {
     if told {
-        add_message(place, number, field, reason, notices)
+        add_message(context, number, field, reason, notices)
     } else {
         Ok(())
     }
@@ -157,43 +158,42 @@ fn add_message_if<A: Allocator>(
 ///
 /// Returns `AllocError` if allocation fails. Nothing is appended then.
 fn add_message<A: Allocator>(
-    place: &Place,
+    context: &Context,
     number: u64,
     field: &[u8],
     reason: &FieldError,
     notices: &mut Notices<A>,
 ) -> Result<(), AllocError>
     ensures ok { OnOk result ((text : List ℕ)
-        × IsMessage (place_of place.now) number field.now reason.now text
+        × IsMessage (context_of context.now) number field.now reason.now text
         × (messages_of notices.new ≡ messages_of notices.old ++ text)) }
     ensures kept { IsBeginningOf (messages_of notices.old) (messages_of notices.new) }
 {
     notices.line.clear();
-    add_place(place, number, &mut notices.line)?;
+    add_heading(context, number, &mut notices.line)?;
     add_quoted(field, &mut notices.line)?;
     add_words(reason, &mut notices.words, &mut notices.line)?;
-    write!(notices.line, "{}", location_of(reason))?;
     notices.line.push_str("\n")?;
     notices.messages.extend_from_slice(notices.line.as_bytes())
 }
 
-/// Appends the place of a field.
+/// Appends the beginning of a message about a field: where the field is.
 ///
 /// # Errors
 ///
 /// Returns `AllocError` if allocation fails.
-fn add_place<A: Allocator>(
-    place: &Place,
+fn add_heading<A: Allocator>(
+    context: &Context,
     number: u64,
     line: &mut String<A>,
 ) -> Result<(), AllocError>
     ensures { OnOk result (string_bytes line.new
-        ≡ string_bytes line.old ++ place_text (place_of place.now) number) }
+        ≡ string_bytes line.old ++ heading_text (context_of context.now) number) }
 {
-    let word = place.word;
-    let record = place.number;
+    let word = context.word;
+    let record = context.number;
     write!(line, "byte-unit: {word} {record}: ")?;
-    match place.options.delimiter {
+    match context.options.separator {
         None => Ok(()),
         Some(_) => write!(line, "field {number}: "),
     }
@@ -226,24 +226,29 @@ fn add_words<A: Allocator>(
 {
     match reason {
         FieldError::NotUtf8 => line.push_str("not UTF-8"),
-        FieldError::Rejected(error) => {
-            // Not to `line`: no contract says what `write!` leaves in its target for an error with a character that is
-            // not ASCII, and the place and the quoted field in `line` have to stay.
-            words.clear();
-            write!(words, "{}", error.error)?;
-            line.push_str(words.as_str())
-        }
+        FieldError::Rejected(error) => add_error(error, words, line),
         FieldError::Above => line.push_str("above the maximum"),
         FieldError::Below => line.push_str("below the minimum"),
     }
 }
 
-/// Returns where a field is wrong.
-fn location_of(reason: &FieldError) -> Location
-    ensures { result ≡ location_of reason.now }
+/// Appends the message of an error of the parser, and where it is. `words` is a buffer for the message.
+///
+/// # Errors
+///
+/// Returns `AllocError` if allocation fails.
+pub(crate) fn add_error<A: Allocator>(
+    error: &LocatedError,
+    words: &mut String<A>,
+    line: &mut String<A>,
+) -> Result<(), AllocError>
+    ensures { OnOk result ((text : List ℕ) × AreErrorWords error.now text
+        × (string_bytes line.new ≡ string_bytes line.old ++ text)) }
 {
-    match reason {
-        FieldError::Rejected(error) => error.location,
-        _ => Location::Whole,
-    }
+    // Not to `line`: no contract says what `write!` leaves in its target for an error with a character that is not
+    // ASCII, and what is in `line` has to stay.
+    words.clear();
+    write!(words, "{}", error.error)?;
+    line.push_str(words.as_str())?;
+    write!(line, "{}", error.location)
 }

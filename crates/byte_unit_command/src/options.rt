@@ -32,6 +32,15 @@ pub enum Invalid {
     Ignore,
 }
 
+/// What separates the fields of a record.
+#[derive(Debug, Clone, Copy, PartialEq, Eq)]
+pub enum Separator {
+    /// This byte, between two fields.
+    Byte(u8),
+    /// Blanks, which are spaces and tabs: a field begins with those before it.
+    Blanks,
+}
+
 /// A range of fields, which are counted from 1.
 #[derive(Debug, Clone, Copy, PartialEq, Eq)]
 pub struct FieldRange {
@@ -62,10 +71,8 @@ pub struct Options<'a> {
     pub width: u16,
     /// Whether the spaces that fill the width are after the size, and not before it.
     pub align_left: bool,
-    /// The byte between two fields; `None` if a record is one field.
-    pub delimiter: Option<u8>,
-    /// Whether fields are between blanks, if there is a delimiter: its byte then has no meaning.
-    pub blanks: bool,
+    /// What separates fields; `None` if a record is one field.
+    pub separator: Option<Separator>,
     /// The fields that are converted.
     pub fields: &'a FieldList,
     /// The byte that ends a record of the input.

@@ -8,10 +8,10 @@ ghost use Rattle.byte_unit.specs.Units.{shape_of};
 ghost use Rattle.byte_unit_stream.specs.Beginnings.{IsBeginningOf};
 ghost use Rattle.byte_unit_command.specs.Formatted.{BeginsWithForm, IsExactText, IsFormText, IsFormatted};
 ghost use Rattle.byte_unit_command.specs.Formatted.{exact_spec as spec_of_exact, padded};
-ghost use Rattle.byte_unit_command.specs.Values.{kind_of};
+ghost use Rattle.byte_unit_command.specs.Values.{kind_by_flag};
 
 use crate::options::{Form, Kind, Options, Unit};
-use crate::values::kind_of;
+use crate::values::kind_by_flag;
 use byte_unit::FormatSpec;
 use byte_unit_choice::{appropriate_unit, recoverable_unit};
 use byte_unit_format::{write_adjusted, write_text};
@@ -26,8 +26,6 @@ const AT_ONCE: usize = 64;
 pub(crate) const DIGITS: usize = 65600;
 
 /// Appends the text of a size in at least `width` columns to `text`. `digits` is a buffer for it.
-///
-/// The only call that writes a size, so that the ways to write it are inlined here.
 ///
 /// Preconditions (proved at every call): `size` is less than 10^30, and `digits` has capacity for any text.
 ///
@@ -63,7 +61,6 @@ pub(crate) fn add_in_width<A: Allocator>(
             if len > AT_ONCE {
                 return text.extend_from_slice(&digits[..len]);
             }
-            // A copy of a constant length takes a few instructions, and no branch depends on `len`.
             text.extend_from_slice(&digits[..AT_ONCE])?;
             text.truncate(text.len() - (AT_ONCE - len));
             Ok(())
@@ -137,8 +134,7 @@ fn write_size(options: &Options, size: u128, out: &mut [u8]) -> usize
     }
 }
 
-/// Writes a size in bits, or in bytes, as [`write_size`] does. A constant kind takes fewer instructions than a
-/// variable.
+/// Writes a size in bits, or in bytes, as [`write_size`] does.
 ///
 /// Preconditions (proved at every call): `size` is less than 10^30, and `out` has capacity for any text.
 #[tactic(auto, using(crate::proofs::Numbers::begins_with))]
@@ -147,12 +143,11 @@ fn write_as<const BITS: bool>(options: &Options, size: u128, out: &mut [u8]) -> 
     requires bound { size < size_limit }
     requires capacity { text_limit ≤ length out.old }
     ensures written { BeginsWithForm
-        (IsFormText options.now.binary (kind_of BITS) options.now.form options.now.precision size)
+        (IsFormText options.now.binary (kind_by_flag BITS) options.now.form options.now.precision size)
         out.new result }
     ensures bound { result < text_limit }
 {
-    let kind = kind_of(BITS);
-    // The precision is read where it counts: digits take fewer instructions then.
+    let kind = kind_by_flag(BITS);
     match options.form {
         Form::Exact if options.binary => {
             let spec = binary_spec(size, kind, options.precision);

@@ -1,7 +1,7 @@
 //! The values of the options of a call, as clap has parsed them.
 
 ghost use Rattle.std.specs.Prelude.{◌≡◌};
-ghost use Rattle.byte_unit_command.specs.Values.{HasValues, kind_of};
+ghost use Rattle.byte_unit_command.specs.Values.{HasValues, kind_by_flag};
 
 use crate::options::Kind;
 use clap::ArgMatches;
@@ -51,8 +51,8 @@ pub struct Values<'a> {
 
 /// Returns the kind of the sizes, in bits or in bytes.
 #[inline(always)]
-pub(crate) fn kind_of(bits: bool) -> Kind
-    ensures { result ≡ kind_of bits }
+pub(crate) fn kind_by_flag(bits: bool) -> Kind
+    ensures { result ≡ kind_by_flag bits }
 {
     if bits { Kind::Bit } else { Kind::Byte }
 }
@@ -62,7 +62,7 @@ pub fn values_of<'a>(matches: &ArgMatches<'a>) -> Values<'a>
     ensures { HasValues matches.now result }
 {
     Values {
-        kind: kind_of(matches.get_flag("bits")),
+        kind: kind_by_flag(matches.get_flag("bits")),
         precision: matches.get_one::<u16>("precision"),
         header: matches.get_one::<u64>("header"),
         ignore_case: matches.get_flag("ignore-case"),

@@ -5,7 +5,7 @@ mod uses;
 use byte_unit_command::error::RunError;
 use byte_unit_command::field_list::{FieldList, fields_of};
 use byte_unit_command::options::{Form, Invalid, Kind, Options};
-use byte_unit_command::run::{Buffers, run_with_buffers};
+use byte_unit_command::run::{RunBuffers, run_with_buffers};
 use byte_unit_command::streams::Streams;
 use byte_unit_command::tally::Tally;
 use byte_unit_stream::paced::{
@@ -30,8 +30,7 @@ fn options_of<'a>(fields: &'a FieldList, has_header: bool) -> Options<'a> {
         suffix: b"",
         width: 0,
         align_left: false,
-        delimiter: None,
-        blanks: false,
+        separator: None,
         fields,
         record_end: b'\n',
         output_end: b'\n',
@@ -220,7 +219,7 @@ fn runs_in_the_same_buffers(rt: HostRuntime) {
 
 /// Runs all rows, with the options of a call without a header and of one with it.
 fn runs_with<'a>(rt: &(impl Abort + AllocGlobal), [plain, with_header]: &'a [Options<'a>; 2]) {
-    let mut buffers = Buffers::new(rt.alloc(), plain);
+    let mut buffers = RunBuffers::new(rt.alloc(), plain);
     for (number, (has_header, paces, input, wanted, output, messages)) in ROWS.iter().enumerate() {
         let options = if *has_header { with_header } else { plain };
         let mut streams = streams_of(rt, input, *paces);

@@ -43,10 +43,10 @@ LIBRARY = [
 ]
 # The forms that the programs have beside those. What `rattle` and `clap` declare is by hand, in the package.
 PROGRAMS = [
-    ("{}", "loop trait Copy Infallible std::convert std::process std::str"),
-    (".{}(", """all any as_slice bytes ends_with extend_from_slice is_ascii_digit is_none is_ok is_some is_some_and
-        pop push push_str resize skip sort_unstable_by_key split split_once starts_with strip_prefix trim_end truncate
-        windows"""),
+    ("{}", "loop trait Copy Infallible std::convert std::process std::slice::from_ref std::str"),
+    (".{}(", """all any as_ref as_slice bytes ends_with extend_from_slice is_ascii_digit is_none is_ok is_some
+        is_some_and pop push push_str resize skip sort_unstable_by_key split split_once starts_with strip_prefix
+        trim_end truncate windows"""),
     # By hand, in `support`, `rattle` and `clap`.
     ("{}", """AllocError Allocator ErrorKind ExitCode ExitCode::from Global HostRuntime String String::new Vec Vec::new
         env env::args eprint eprintln format io io::Error::from io::ErrorKind::BrokenPipe io::ErrorKind::OutOfMemory

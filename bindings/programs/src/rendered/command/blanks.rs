@@ -1,53 +1,45 @@
 // Rendered from crates/byte_unit_command/src/blanks.rt by `tools/dev render rust`. Do not edit.
 
-//! Fields between blanks, or between delimiters.
+//! Fields that a byte or blanks separate.
 
-use crate::rendered::command::options::Options;
+use crate::rendered::command::options::Separator;
 use crate::rendered::stream::end_of;
 
-/// Returns the bytes between two fields: `mark`, which has the delimiter, or nothing between blanks, where each field
-/// begins with the blanks before it. Only the contract reads `options`.
-///
-/// Preconditions: `delimiter` is that of the options, and `blanks` says whether fields are
-/// between blanks.
+/// Returns the bytes between two fields: none between blanks, where each field begins with the blanks before it.
 #[inline(always)]
-pub(crate) fn between<'a>(options: &Options, blanks: bool, delimiter: u8, mark: &'a [u8]) -> &'a [u8] {
-    if blanks { &[] } else { mark }
+pub(crate) fn between(separator: &Separator) -> &[u8] {
+    match separator {
+        Separator::Byte(byte) => std::slice::from_ref(byte),
+        Separator::Blanks => &[],
+    }
 }
 
-/// Returns the number of bytes of the first field, or `None` if there is no other field. Only the contract reads
-/// `options`.
-///
-/// Preconditions: `delimiter` is that of the options, and `blanks` says whether fields are
-/// between blanks.
+/// Returns the number of bytes of the first field, or `None` if there is no other field.
 #[inline(always)]
-pub(crate) fn end_of_first(options: &Options, blanks: bool, delimiter: u8, bytes: &[u8]) -> Option<usize> {
-    if blanks {
-        return end_of_field(bytes);
+pub(crate) fn end_of_first(separator: Separator, bytes: &[u8]) -> Option<usize> {
+    match separator {
+        Separator::Byte(byte) => end_of(bytes, byte),
+        Separator::Blanks => end_of_field(bytes),
     }
-    end_of(bytes, delimiter)
 }
 
 /// Returns the least number of columns of a size that replaces the field with this number. Without a width, a size
 /// between blanks takes the columns of the field.
 #[inline(always)]
-pub(crate) fn width_of<const BLANKS: bool>(options: &Options, number: u64, field: &[u8]) -> usize {
-    if BLANKS && options.width == 0 {
-        return columns_of(number > 1, field);
+pub(crate) fn columns_in(separator: Option<Separator>, width: u16, number: u64, field: &[u8]) -> usize {
+    match separator {
+        Some(Separator::Blanks) if width == 0 => columns_of(number > 1, field),
+        _ => width as usize,
     }
-    options.width as usize
 }
 
 /// Returns the blank before a field that separates it from the field before it; nothing for the first field, and if
 /// fields are not between blanks.
 #[inline(always)]
-pub(crate) fn gap_of<const BLANKS: bool>(number: u64, field: &[u8]) -> &[u8] {
-    if !BLANKS || number <= 1 {
-        return &[];
-    }
-    match field {
-        [] => &[],
-        [_, ..] => &field[..1],
+pub(crate) fn gap_of(separator: Option<Separator>, number: u64, field: &[u8]) -> &[u8] {
+    match (separator, field) {
+        (Some(Separator::Blanks), [_, ..]) if number > 1 => &field[..1],
+        _ => &[],
     }
 }
 

@@ -2,7 +2,7 @@
 
 //! The exit status, and the message of a run that ended early.
 
-use crate::rendered::command::error::{Reason, RunError};
+use crate::rendered::command::error::{EndReason, RunError};
 use crate::rendered::command::options::Invalid;
 use crate::rendered::command::tally::Tally;
 
@@ -32,7 +32,7 @@ pub fn message(error: RunError) -> Option<&'static str> {
         RunError::Memory => Some("out of memory"),
         RunError::Read => Some("read failed"),
         RunError::Write => Some("write failed"),
-        RunError::Ended(Reason::Rejected) => None,
-        RunError::Ended(Reason::Total) => Some("the total is 10^30 or more"),
+        RunError::Ended(EndReason::Rejected) => None,
+        RunError::Ended(EndReason::Total) => Some("the total is 10^30 or more"),
     }
 }

@@ -3,28 +3,37 @@
 //! What the values of the options of a call mean.
 
 use crate::rendered::command::field_list::{FieldList, positive_of};
-use crate::rendered::command::options::{Form, Invalid, Kind, Options, Unit, UnitType};
-use crate::rendered::command::size::ignores_case;
+use crate::rendered::command::options::{Form, Invalid, Kind, Options, Separator, Unit, UnitType};
+use crate::rendered::command::size::explain;
 use crate::rendered::command::values::Values;
 use crate::rendered::command::wrong::{ValueError, Wrong};
-use byte_unit::rendered::base::{ParseError, size};
 
 /// The most digits after the point that the exact form has: the library takes a greater precision as 28.
 const DECIMAL_PLACES: u16 = 28;
 
-/// Returns the options of a call. `fields` are those that `field_list::fields_of` returned.
+/// The value of `--padding`.
+#[derive(Clone, Copy)]
+pub(crate) struct Padding {
+    /// The least number of bytes of a size; 0 for none.
+    width: u16,
+    /// Whether sizes are aligned to the left.
+    align_left: bool,
+}
+
+/// Returns the options of a call. `fields` is what `field_list::fields_of` returned for the value of `--field`.
 ///
 /// # Errors
 ///
 /// Returns the first option that is wrong, in the order of `--from`, `--to`, `--precision`, `--no-unit`, `--delimiter`,
 /// `--field`, `--padding`, `--invalid`, `--max` and `--min`.
-pub fn options_of<'a>(values: &Values<'a>, fields: &'a FieldList) -> Result<Options<'a>, Wrong<'a>> {
+pub fn options_of<'a>(values: &Values<'a>, fields: Option<&'a FieldList>) -> Result<Options<'a>, Wrong<'a>> {
     let kind = values.kind;
     let binary = from_of(values.from)?;
     let given = form_of(values)?;
     let form = output_form(values.no_unit, given)?;
-    let delimiter = separator_of(values)?;
-    let (width, align_left) = padding_of(values.padding)?;
+    let separator = separator_of(values)?;
+    let fields = listed(values, fields)?;
+    let padding = padding_of(values.padding)?;
     let invalid = invalid_of(values.invalid)?;
     let max = limit_of("--max", values.max, binary, kind, values.ignore_case)?;
     let min = limit_of("--min", values.min, binary, kind, values.ignore_case)?;
@@ -47,10 +56,9 @@ pub fn options_of<'a>(values: &Values<'a>, fields: &'a FieldList) -> Result<Opti
             }
         },
         suffix: values.suffix.unwrap_or("").as_bytes(),
-        width,
-        align_left,
-        delimiter,
-        blanks: values.blanks,
+        width: padding.width,
+        align_left: padding.align_left,
+        separator,
         fields,
         // Each operand ends with a zero byte, and none is a header.
         record_end: if values.has_operands { 0 } else { output_end },
@@ -107,7 +115,7 @@ fn form_of<'a>(values: &Values<'a>) -> Result<Form, Wrong<'a>> {
         "si" => Ok(Form::Largest(UnitType::Decimal)),
         "iec" => Ok(Form::Largest(UnitType::Binary)),
         "auto" => Ok(Form::Largest(UnitType::Both)),
-        _ => match unit_of(value, values.kind, values.ignore_case) {
+        _ => match unit_named(value, values.kind, values.ignore_case) {
             Ok(unit) => Ok(Form::InUnit(unit)),
             Err(reason) => Err(wrong("--to", value, reason)),
         },
@@ -134,7 +142,7 @@ fn output_form<'a>(no_unit: bool, given: Form) -> Result<Form, Wrong<'a>> {
 
 /// Returns the unit that a value spells. White space alone, which the library parses as the unit without a prefix, is
 /// not a unit here.
-fn unit_of(value: &str, kind: Kind, ignore_case: bool) -> Result<Unit, ValueError> {
+fn unit_named(value: &str, kind: Kind, ignore_case: bool) -> Result<Unit, ValueError> {
     if value.trim().is_empty() {
         return Err(ValueError::Blank);
     }
@@ -149,25 +157,24 @@ fn unit_of(value: &str, kind: Kind, ignore_case: bool) -> Result<Unit, ValueErro
     }
 }
 
-/// Returns the byte between two fields: a space if they are between blanks, and else the delimiter. Returns `None` if a
-/// record is one field.
+/// Returns what separates fields: blanks, or else the delimiter. Returns `None` if a record is one field.
 ///
 /// # Errors
 ///
 /// Returns an error if the delimiter is not empty, one byte or `\t`, or if `--field` is given and nothing separates the
 /// fields.
-fn separator_of<'a>(values: &Values<'a>) -> Result<Option<u8>, Wrong<'a>> {
+fn separator_of<'a>(values: &Values<'a>) -> Result<Option<Separator>, Wrong<'a>> {
     let delimiter = match values.delimiter {
         None => None,
         Some(value) => match value.as_bytes() {
             [] => None,
-            [byte] => Some(*byte),
-            b"\\t" => Some(b'\t'),
+            [byte] => Some(Separator::Byte(*byte)),
+            b"\\t" => Some(Separator::Byte(b'\t')),
             _ => return Err(wrong("--delimiter", value, ValueError::Delimiter)),
         },
     };
     if values.blanks {
-        return Ok(Some(b' '));
+        return Ok(Some(Separator::Blanks));
     }
     if values.field.is_some() && values.delimiter.is_none() {
         return Err(Wrong { option: "--field", value: values.field, reason: ValueError::NoDelimiter });
@@ -175,27 +182,38 @@ fn separator_of<'a>(values: &Values<'a>) -> Result<Option<u8>, Wrong<'a>> {
     Ok(delimiter)
 }
 
+/// Returns the fields that are converted.
+///
+/// # Errors
+///
+/// Returns an error if the value of `--field` is not a list of fields.
+fn listed<'a>(values: &Values<'a>, fields: Option<&'a FieldList>) -> Result<&'a FieldList, Wrong<'a>> {
+    match fields {
+        Some(fields) => Ok(fields),
+        None => Err(Wrong { option: "--field", value: values.field, reason: ValueError::Fields }),
+    }
+}
+
 /// Returns the width, and whether sizes are aligned to the left.
 ///
 /// # Errors
 ///
 /// Returns an error if the value is not a number from 1 to 65535, or its negative.
-fn padding_of(value: Option<&str>) -> Result<(u16, bool), Wrong<'_>> {
+fn padding_of(value: Option<&str>) -> Result<Padding, Wrong<'_>> {
     let Some(value) = value else {
-        // No width.
-        return Ok((0, false));
+        return Ok(Padding { width: 0, align_left: false });
     };
-    match signed_width_of(value) {
+    match signed_width(value) {
         Some(padding) => Ok(padding),
         None => Err(wrong("--padding", value, ValueError::Padding)),
     }
 }
 
 /// Parses a width, and whether a hyphen before it aligns sizes to the left. Returns `None` if the text is neither.
-fn signed_width_of(text: &str) -> Option<(u16, bool)> {
+fn signed_width(text: &str) -> Option<Padding> {
     match text.strip_prefix('-') {
-        Some(digits) => Some((width_of(digits)?, true)),
-        None => Some((width_of(text)?, false)),
+        Some(digits) => Some(Padding { width: width_of(digits)?, align_left: true }),
+        None => Some(Padding { width: width_of(text)?, align_left: false }),
     }
 }
 
@@ -238,14 +256,10 @@ fn limit_of<'a>(
     let Some(value) = value else {
         return Ok(None);
     };
-    match parse_size(value, binary, kind, ignore_case) {
-        Ok(size) => Ok(Some(size)),
-        Err(error) => Err(wrong(option, value, ValueError::Size(error))),
+    match explain(binary, kind, ignore_case, value.as_bytes()) {
+        Some(Ok(size)) => Ok(Some(size)),
+        Some(Err(error)) => Err(wrong(option, value, ValueError::Size(error))),
+        // Never: a string is UTF-8.
+        None => Ok(None),
     }
-}
-
-/// Parses a size of a kind. Decimal prefixes mean binary ones if `binary` is set.
-fn parse_size(text: &str, binary: bool, kind: Kind, ignore_case: bool) -> Result<u128, ParseError> {
-    let ignore_case = ignores_case(kind, ignore_case);
-    if binary { size::parse::<true>(text, ignore_case, kind) } else { size::parse::<false>(text, ignore_case, kind) }
 }

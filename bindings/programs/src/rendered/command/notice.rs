@@ -5,12 +5,12 @@
 use crate::rattle::alloc::{AllocError, Allocator};
 use crate::rattle::{String, Vec};
 use crate::rendered::command::options::{Invalid, Options};
-use crate::rendered::command::size::explain;
-use byte_unit::rendered::base::{LocatedError, Location, Quoted};
+use crate::rendered::command::size::{explain, without_suffix};
+use byte_unit::rendered::base::{LocatedError, Quoted};
 
-/// The place of a record: what a message about a field of it needs beside the field.
+/// The context of a record: what says how its fields are converted, and where they are.
 #[derive(Clone, Copy)]
-pub(crate) struct Place<'a> {
+pub(crate) struct Context<'a> {
     /// The options of the run.
     pub options: &'a Options<'a>,
     /// What a record is called: `line`, `record` or `operand`.
@@ -49,16 +49,16 @@ enum FieldError {
 ///
 /// Returns `AllocError` if allocation fails. Nothing is appended then.
 pub(crate) fn add_reject_notice<A: Allocator>(
-    place: &Place,
+    context: &Context,
     number: u64,
     field: &[u8],
     notices: &mut Notices<A>,
 ) -> Result<(), AllocError> {
-    if !tells_rejected(place.options.invalid) {
+    if !tells_rejected(context.options.invalid) {
         return Ok(());
     }
-    let reason = reason_of(place.options, field);
-    add_message(place, number, field, &reason, notices)
+    let reason = reason_of(context.options, field);
+    add_message(context, number, field, &reason, notices)
 }
 
 /// Returns `true` if there are messages about rejected fields.
@@ -73,7 +73,8 @@ fn tells_rejected(invalid: Invalid) -> bool {
 ///
 /// Precondition: the field is not a size.
 fn reason_of(options: &Options, field: &[u8]) -> FieldError {
-    match explain(options, field) {
+    let text = without_suffix(options.suffix, field);
+    match explain(options.binary, options.kind, options.ignore_case, text) {
         Some(Err(error)) => FieldError::Rejected(error),
         // Never: a field that is parsed as a size is one.
         Some(Ok(_)) => FieldError::NotUtf8,
@@ -89,16 +90,16 @@ fn reason_of(options: &Options, field: &[u8]) -> FieldError {
 #[cold]
 #[inline(never)]
 pub(crate) fn add_limit_notice<A: Allocator>(
-    place: &Place,
+    context: &Context,
     number: u64,
     field: &[u8],
     size: u128,
     notices: &mut Notices<A>,
 ) -> Result<(), AllocError> {
-    let above = place.options.max.is_some_and(|most| most < size);
-    let below = place.options.min.is_some_and(|least| size < least);
-    add_message_if(above, place, number, field, &FieldError::Above, notices)?;
-    add_message_if(below, place, number, field, &FieldError::Below, notices)
+    let above = context.options.max.is_some_and(|most| most < size);
+    let below = context.options.min.is_some_and(|least| size < least);
+    add_message_if(above, context, number, field, &FieldError::Above, notices)?;
+    add_message_if(below, context, number, field, &FieldError::Below, notices)
 }
 
 /// Appends a message if it is to be told.
@@ -108,13 +109,13 @@ pub(crate) fn add_limit_notice<A: Allocator>(
 /// Returns `AllocError` if allocation fails. Nothing is appended then.
 fn add_message_if<A: Allocator>(
     told: bool,
-    place: &Place,
+    context: &Context,
     number: u64,
     field: &[u8],
     reason: &FieldError,
     notices: &mut Notices<A>,
 ) -> Result<(), AllocError> {
-    if told { add_message(place, number, field, reason, notices) } else { Ok(()) }
+    if told { add_message(context, number, field, reason, notices) } else { Ok(()) }
 }
 
 /// Appends a message.
@@ -123,31 +124,30 @@ fn add_message_if<A: Allocator>(
 ///
 /// Returns `AllocError` if allocation fails. Nothing is appended then.
 fn add_message<A: Allocator>(
-    place: &Place,
+    context: &Context,
     number: u64,
     field: &[u8],
     reason: &FieldError,
     notices: &mut Notices<A>,
 ) -> Result<(), AllocError> {
     notices.line.clear();
-    add_place(place, number, &mut notices.line)?;
+    add_heading(context, number, &mut notices.line)?;
     add_quoted(field, &mut notices.line)?;
     add_words(reason, &mut notices.words, &mut notices.line)?;
-    write!(notices.line, "{}", location_of(reason))?;
     notices.line.push_str("\n")?;
     notices.messages.extend_from_slice(notices.line.as_bytes())
 }
 
-/// Appends the place of a field.
+/// Appends the beginning of a message about a field: where the field is.
 ///
 /// # Errors
 ///
 /// Returns `AllocError` if allocation fails.
-fn add_place<A: Allocator>(place: &Place, number: u64, line: &mut String<A>) -> Result<(), AllocError> {
-    let word = place.word;
-    let record = place.number;
+fn add_heading<A: Allocator>(context: &Context, number: u64, line: &mut String<A>) -> Result<(), AllocError> {
+    let word = context.word;
+    let record = context.number;
     write!(line, "byte-unit: {word} {record}: ")?;
-    match place.options.delimiter {
+    match context.options.separator {
         None => Ok(()),
         Some(_) => write!(line, "field {number}: "),
     }
@@ -170,22 +170,26 @@ pub(crate) fn add_quoted<A: Allocator>(field: &[u8], line: &mut String<A>) -> Re
 fn add_words<A: Allocator>(reason: &FieldError, words: &mut String<A>, line: &mut String<A>) -> Result<(), AllocError> {
     match reason {
         FieldError::NotUtf8 => line.push_str("not UTF-8"),
-        FieldError::Rejected(error) => {
-            // Not to `line`: no contract says what `write!` leaves in its target for an error with a character that is
-            // not ASCII, and the place and the quoted field in `line` have to stay.
-            words.clear();
-            write!(words, "{}", error.error)?;
-            line.push_str(words.as_str())
-        }
+        FieldError::Rejected(error) => add_error(error, words, line),
         FieldError::Above => line.push_str("above the maximum"),
         FieldError::Below => line.push_str("below the minimum"),
     }
 }
 
-/// Returns where a field is wrong.
-fn location_of(reason: &FieldError) -> Location {
-    match reason {
-        FieldError::Rejected(error) => error.location,
-        _ => Location::Whole,
-    }
+/// Appends the message of an error of the parser, and where it is. `words` is a buffer for the message.
+///
+/// # Errors
+///
+/// Returns `AllocError` if allocation fails.
+pub(crate) fn add_error<A: Allocator>(
+    error: &LocatedError,
+    words: &mut String<A>,
+    line: &mut String<A>,
+) -> Result<(), AllocError> {
+    // Not to `line`: no contract says what `write!` leaves in its target for an error with a character that is not
+    // ASCII, and what is in `line` has to stay.
+    words.clear();
+    write!(words, "{}", error.error)?;
+    line.push_str(words.as_str())?;
+    write!(line, "{}", error.location)
 }

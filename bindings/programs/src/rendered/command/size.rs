@@ -10,30 +10,20 @@ use std::str;
 /// Parses a field, without the suffix of the options, as a size of their kind. Returns `None` if it is not UTF-8.
 pub(crate) fn parse(options: &Options, field: &[u8]) -> Option<Result<u128, ParseError>> {
     let text = without_suffix(options.suffix, field);
-    let ignore_case = ignores_case(options.kind, options.ignore_case);
     if options.binary {
-        size::parse_bytes::<true>(text, ignore_case, options.kind)
+        size::parse_bytes::<true>(text, options.ignore_case, options.kind)
     } else {
-        size::parse_bytes::<false>(text, ignore_case, options.kind)
+        size::parse_bytes::<false>(text, options.ignore_case, options.kind)
     }
 }
 
-/// Parses a field as [`parse`] does, for a message: with the location of the error.
-pub(crate) fn explain(options: &Options, field: &[u8]) -> Option<Result<u128, LocatedError>> {
-    let text = without_suffix(options.suffix, field);
-    let ignore_case = ignores_case(options.kind, options.ignore_case);
-    if options.binary {
-        size::explain::<true>(text, ignore_case, options.kind)
+/// Parses a size of a kind, for a message: with the location of the error. A decimal prefix means the binary one if
+/// `binary` is set. Returns `None` if the text is not UTF-8.
+pub(crate) fn explain(binary: bool, kind: Kind, ignore_case: bool, text: &[u8]) -> Option<Result<u128, LocatedError>> {
+    if binary {
+        size::explain::<true>(text, ignore_case, kind)
     } else {
-        size::explain::<false>(text, ignore_case, options.kind)
-    }
-}
-
-/// Returns `true` if case is ignored. It is always significant in sizes in bits.
-pub(crate) fn ignores_case(kind: Kind, ignore_case: bool) -> bool {
-    match kind {
-        Kind::Byte => ignore_case,
-        Kind::Bit => false,
+        size::explain::<false>(text, ignore_case, kind)
     }
 }
 
@@ -60,12 +50,10 @@ fn before_space(text: &[u8]) -> &[u8] {
 }
 
 /// What is returned in place of a size if there is none. Each number of 2^127 or more says so, since sizes are below
-/// 10^30, so the first bit tells. A number in registers takes fewer instructions than an `Option`.
+/// 10^30, so the first bit tells.
 const NO_SIZE: u128 = 1 << 127;
 
 /// Returns the size that a field represents, or `None` if it is not a size.
-///
-/// The result of [`parse`] is a large value: an accepted field takes fewer instructions if no function has it.
 #[inline(always)]
 pub(crate) fn accepted(options: &Options, field: &[u8]) -> Option<u128> {
     let size = if options.suffix.is_empty() && !options.binary {
@@ -76,8 +64,7 @@ pub(crate) fn accepted(options: &Options, field: &[u8]) -> Option<u128> {
     if size >= NO_SIZE { None } else { Some(size) }
 }
 
-/// Returns the size that a text represents, or `NO_SIZE`. With the kind as a constant in each call, a field takes three
-/// instructions fewer.
+/// Returns the size that a text represents, or `NO_SIZE`.
 ///
 /// Precondition: the options read prefixes as they are.
 #[inline(never)]
@@ -88,7 +75,7 @@ fn plain_size(options: &Options, text: &[u8]) -> u128 {
             Some(Err(_)) => NO_SIZE,
             None => NO_SIZE,
         },
-        Kind::Bit => match size::parse_bytes::<false>(text, false, Kind::Bit) {
+        Kind::Bit => match size::parse_bytes::<false>(text, options.ignore_case, Kind::Bit) {
             Some(Ok(size)) => size,
             Some(Err(_)) => NO_SIZE,
             None => NO_SIZE,

@@ -5,7 +5,7 @@
 use crate::rattle::Vec;
 use crate::rattle::alloc::{AllocError, Allocator};
 use crate::rendered::command::options::{Form, Kind, Options, Unit};
-use crate::rendered::command::values::kind_of;
+use crate::rendered::command::values::kind_by_flag;
 use byte_unit::rendered::choice::{appropriate_unit, recoverable_unit};
 use byte_unit::rendered::format::FormatSpec;
 use byte_unit::rendered::format::{write_adjusted, write_text};
@@ -19,8 +19,6 @@ const AT_ONCE: usize = 64;
 pub(crate) const DIGITS: usize = 65600;
 
 /// Appends the text of a size in at least `width` columns to `text`. `digits` is a buffer for it.
-///
-/// The only call that writes a size, so that the ways to write it are inlined here.
 ///
 /// Preconditions: `size` is less than 10^30, and `digits` has capacity for any text.
 ///
@@ -43,7 +41,6 @@ pub(crate) fn add_in_width<A: Allocator>(
             if len > AT_ONCE {
                 return text.extend_from_slice(&digits[..len]);
             }
-            // A copy of a constant length takes a few instructions, and no branch depends on `len`.
             text.extend_from_slice(&digits[..AT_ONCE])?;
             text.truncate(text.len() - (AT_ONCE - len));
             Ok(())
@@ -97,14 +94,12 @@ fn write_size(options: &Options, size: u128, out: &mut [u8]) -> usize {
     }
 }
 
-/// Writes a size in bits, or in bytes, as [`write_size`] does. A constant kind takes fewer instructions than a
-/// variable.
+/// Writes a size in bits, or in bytes, as [`write_size`] does.
 ///
 /// Preconditions: `size` is less than 10^30, and `out` has capacity for any text.
 #[inline(always)]
 fn write_as<const BITS: bool>(options: &Options, size: u128, out: &mut [u8]) -> usize {
-    let kind = kind_of(BITS);
-    // The precision is read where it counts: digits take fewer instructions then.
+    let kind = kind_by_flag(BITS);
     match options.form {
         Form::Exact if options.binary => {
             let spec = binary_spec(size, kind, options.precision);

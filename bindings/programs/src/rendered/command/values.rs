@@ -50,14 +50,14 @@ pub struct Values<'a> {
 
 /// Returns the kind of the sizes, in bits or in bytes.
 #[inline(always)]
-pub(crate) fn kind_of(bits: bool) -> Kind {
+pub(crate) fn kind_by_flag(bits: bool) -> Kind {
     if bits { Kind::Bit } else { Kind::Byte }
 }
 
 /// Returns the values of the options of a call that clap has parsed.
 pub fn values_of<'a>(matches: &ArgMatches<'a>) -> Values<'a> {
     Values {
-        kind: kind_of(matches.get_flag("bits")),
+        kind: kind_by_flag(matches.get_flag("bits")),
         precision: matches.get_one::<u16>("precision"),
         header: matches.get_one::<u64>("header"),
         ignore_case: matches.get_flag("ignore-case"),

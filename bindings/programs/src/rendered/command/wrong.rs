@@ -4,12 +4,11 @@
 
 use crate::rattle::alloc::{AllocError, Global};
 use crate::rattle::{String, Vec};
-use crate::rendered::command::notice::add_quoted;
-use byte_unit::rendered::base::Quoted;
-use byte_unit::rendered::base::{ParseError, UnitParseError};
+use crate::rendered::command::notice::{add_error, add_quoted};
+use byte_unit::rendered::base::UnitParseError;
+use byte_unit::rendered::base::{LocatedError, Quoted};
 
 /// What is wrong with a call: an option, its value, and the reason.
-#[derive(Debug)]
 pub struct Wrong<'a> {
     /// The option.
     pub option: &'static str,
@@ -20,7 +19,6 @@ pub struct Wrong<'a> {
 }
 
 /// Why the value of an option is wrong.
-#[derive(Debug)]
 pub enum ValueError {
     /// It is neither a form nor a unit; this is the error of the unit.
     Unit(UnitParseError),
@@ -42,8 +40,8 @@ pub enum ValueError {
     Padding,
     /// It is not a mode.
     Mode,
-    /// It is not a size.
-    Size(ParseError),
+    /// It is not a size; this is the error, with its location.
+    Size(LocatedError),
 }
 
 impl<'a> Wrong<'a> {
@@ -82,26 +80,26 @@ fn add_value(value: Option<&str>, message: &mut String) -> Result<(), AllocError
 ///
 /// Returns `AllocError` if allocation fails.
 fn add_reason(alloc: Global, reason: &ValueError, message: &mut String) -> Result<(), AllocError> {
-    // Not to `message`: no contract says what `write!` leaves in its target for an error with a character that is not
-    // ASCII, and the option and its value in `message` have to stay.
-    let mut words = String::new(alloc);
     match reason {
         ValueError::Unit(error) => {
-            message.push_str("not a form or a unit: ")?;
+            // Not to `message`: no contract says what `write!` leaves in its target for an error with a character that
+            // is not ASCII, and the option and its value in `message` have to stay.
+            let mut words = String::new(alloc);
             write!(words, "{error}")?;
+            message.push_str("not a form or a unit: ")?;
+            message.push_str(words.as_str())
         }
-        ValueError::Blank => words.push_str("not a form or a unit")?,
-        ValueError::From => words.push_str("not auto, si, iec or iec-i")?,
-        ValueError::NoUnit => words.push_str("needs --to=plain or --to with a unit, such as --to=MiB")?,
-        ValueError::Precision => words.push_str("above 28 in the form exact")?,
-        ValueError::Delimiter => words.push_str("not one character of one byte")?,
-        ValueError::NoDelimiter => words.push_str("needs -d or --blanks, by which fields are separated")?,
-        ValueError::Fields => words.push_str("not a list of fields")?,
-        ValueError::Padding => words.push_str("not a number from 1 to 65535, or its negative")?,
-        ValueError::Mode => words.push_str("not abort, fail, warn or ignore")?,
-        ValueError::Size(error) => write!(words, "{error}")?,
+        ValueError::Blank => message.push_str("not a form or a unit"),
+        ValueError::From => message.push_str("not auto, si, iec or iec-i"),
+        ValueError::NoUnit => message.push_str("needs --to=plain or --to with a unit, such as --to=MiB"),
+        ValueError::Precision => message.push_str("above 28 in the form exact"),
+        ValueError::Delimiter => message.push_str("not one character of one byte"),
+        ValueError::NoDelimiter => message.push_str("needs -d or --blanks, by which fields are separated"),
+        ValueError::Fields => message.push_str("not a list of fields"),
+        ValueError::Padding => message.push_str("not a number from 1 to 65535, or its negative"),
+        ValueError::Mode => message.push_str("not abort, fail, warn or ignore"),
+        ValueError::Size(error) => add_error(error, &mut String::new(alloc), message),
     }
-    message.push_str(words.as_str())
 }
 
 /// Returns the words of a call with a zero byte, which no word has, in place of each line feed.

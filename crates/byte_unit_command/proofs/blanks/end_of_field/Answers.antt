@@ -9,10 +9,10 @@ use Rattle.byte_unit_command.proofs.BlankFields.{blank_fields-cut, blank_fields-
 use Rattle.byte_unit_command.proofs.blanks.end_of_field.Goals as goal
 
 -- whether a field ends there, by the two bytes that the code reads
-by_two : (bytes : List ℕ) (place : ℕ) → ends_there bytes place
-    ≡ (not (is_blank (get_or bytes place 0)) && is_blank (get_or bytes (place + 1) 0))
-by_two bytes place =
-    ap (λ next. not (is_blank (get_or bytes place 0)) && is_blank (get_or bytes next 0)) (suc-eq-add-one place)
+by_two : (bytes : List ℕ) (index : ℕ) → ends_there bytes index
+    ≡ (not (is_blank (get_or bytes index 0)) && is_blank (get_or bytes (index + 1) 0))
+by_two bytes index =
+    ap (λ next. not (is_blank (get_or bytes index 0)) && is_blank (get_or bytes next 0)) (suc-eq-add-one index)
 
 -- no field ends before the first byte
 pub loop-i-init : goal.loop-i-init
@@ -22,9 +22,9 @@ loop-i-init c = (λ k low. let never : ⊥ = omega (arith, low) in absurd never,
 pub loop-i-preserved : goal.loop-i-preserved
 loop-i-preserved c =
     let bytes = c.args.bytes.now in
-    let place = c.loop-i.i in
-    let here = by_two bytes place ∙ sym c.ends_field.ensures ∙ c.if-ends_field.false in (
-      λ k low. elim (eq-or-lt_of_le {n = k} {m = place} (omega (arith, low))) [
+    let index = c.loop-i.i in
+    let here = by_two bytes index ∙ sym c.ends_field.ensures ∙ c.if-ends_field.false in (
+      λ k low. elim (eq-or-lt_of_le {n = k} {m = index} (omega (arith, low))) [
         | inl same ↦ subst (λ k. ends_there bytes k ≡ false) (sym same) here
         | inr before ↦ c.loop-i.invariant.0 k before
       ],
@@ -35,13 +35,13 @@ loop-i-preserved c =
 pub returns-then-ends_field-clause-some : goal.returns-then-ends_field-clause-some
 returns-then-ends_field-clause-some c =
     let bytes = c.args.bytes.now in
-    let place = c.loop-i.i in
-    let fits : place + 1 < length bytes = omega arith in (
+    let index = c.loop-i.i in
+    let fits : index + 1 < length bytes = omega arith in (
       omega arith,
       fits,
-      subst (λ n. blank_fields bytes ≡ take n bytes ∷ blank_fields (drop n bytes)) (suc-eq-add-one place)
-          (blank_fields-cut bytes place (omega (arith, fits)) c.loop-i.invariant.0
-          (by_two bytes place ∙ sym c.ends_field.ensures ∙ c.if-ends_field.true)),
+      subst (λ n. blank_fields bytes ≡ take n bytes ∷ blank_fields (drop n bytes)) (suc-eq-add-one index)
+          (blank_fields-cut bytes index (omega (arith, fits)) c.loop-i.invariant.0
+          (by_two bytes index ∙ sym c.ends_field.ensures ∙ c.if-ends_field.true)),
     )
 
 -- no field ends before the last byte, so all bytes are one field

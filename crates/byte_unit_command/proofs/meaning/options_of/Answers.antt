@@ -14,48 +14,58 @@ later meaning is_right holds = inr (meaning, is_right, holds)
 -- the form is wrong
 pub returns-in_err-given-clause-err : goal.returns-in_err-given-clause-err
 returns-in_err-given-clause-err c =
-    error-passed (λ _. ⊤) (IsFirstWrong c.args.values.now) _ _ c.from_residual-in_err-given.ensures.1
+    error-passed (λ _. ⊤) (IsFirstWrong c.args.values.now c.args.fields) _ _ c.from_residual-in_err-given.ensures.1
     (later _ c.in_ok-binary.ensures.ok (inl c.in_err-given.ensures.err))
 
 -- the form cannot be used without its unit
 pub returns-in_err-form-clause-err : goal.returns-in_err-form-clause-err
 returns-in_err-form-clause-err c =
-    error-passed (λ _. ⊤) (IsFirstWrong c.args.values.now) _ _ c.from_residual-in_err-form.ensures.1
+    error-passed (λ _. ⊤) (IsFirstWrong c.args.values.now c.args.fields) _ _ c.from_residual-in_err-form.ensures.1
     (later _ c.in_ok-binary.ensures.ok (later _ c.in_ok-given.ensures.ok (inl c.in_err-form.ensures.err)))
 
 -- the delimiter is wrong, or nothing separates the fields that are named
-pub returns-in_err-delimiter-clause-err : goal.returns-in_err-delimiter-clause-err
-returns-in_err-delimiter-clause-err c =
-    error-passed (λ _. ⊤) (IsFirstWrong c.args.values.now) _ _ c.from_residual-in_err-delimiter.ensures.1
+pub returns-in_err-separator-clause-err : goal.returns-in_err-separator-clause-err
+returns-in_err-separator-clause-err c =
+    error-passed (λ _. ⊤) (IsFirstWrong c.args.values.now c.args.fields) _ _ c.from_residual-in_err-separator.ensures.1
     (later _ c.in_ok-binary.ensures.ok (later _ c.in_ok-given.ensures.ok (later _ c.in_ok-form.ensures.ok
-    (inl c.in_err-delimiter.ensures.err))))
+    (inl c.in_err-separator.ensures.err))))
+
+-- the list of fields is wrong
+pub returns-in_err-fields-clause-err : goal.returns-in_err-fields-clause-err
+returns-in_err-fields-clause-err c =
+    error-passed (λ _. ⊤) (IsFirstWrong c.args.values.now c.args.fields) _ _ c.from_residual-in_err-fields.ensures.1
+    (later _ c.in_ok-binary.ensures.ok (later _ c.in_ok-given.ensures.ok (later _ c.in_ok-form.ensures.ok
+    (later _ c.in_ok-separator.ensures.ok (inl c.in_err-fields.ensures.err)))))
 
 -- the width is wrong
-pub returns-in_err-width-clause-err : goal.returns-in_err-width-clause-err
-returns-in_err-width-clause-err c =
-    error-passed (λ _. ⊤) (IsFirstWrong c.args.values.now) _ _ c.from_residual-in_err-width.ensures.1
+pub returns-in_err-padding-clause-err : goal.returns-in_err-padding-clause-err
+returns-in_err-padding-clause-err c =
+    error-passed (λ _. ⊤) (IsFirstWrong c.args.values.now c.args.fields) _ _ c.from_residual-in_err-padding.ensures.1
     (later _ c.in_ok-binary.ensures.ok (later _ c.in_ok-given.ensures.ok (later _ c.in_ok-form.ensures.ok
-    (later _ c.in_ok-delimiter.ensures.ok (inl c.in_err-width.ensures.err)))))
+    (later _ c.in_ok-separator.ensures.ok (later _ c.in_ok-fields.ensures.ok (inl c.in_err-padding.ensures.err))))))
 
 -- the mode for rejected fields is wrong
 pub returns-in_err-invalid-clause-err : goal.returns-in_err-invalid-clause-err
 returns-in_err-invalid-clause-err c =
-    error-passed (λ _. ⊤) (IsFirstWrong c.args.values.now) _ _ c.from_residual-in_err-invalid.ensures.1
+    error-passed (λ _. ⊤) (IsFirstWrong c.args.values.now c.args.fields) _ _ c.from_residual-in_err-invalid.ensures.1
     (later _ c.in_ok-binary.ensures.ok (later _ c.in_ok-given.ensures.ok (later _ c.in_ok-form.ensures.ok
-    (later _ c.in_ok-delimiter.ensures.ok (later _ c.in_ok-width.ensures.ok (inl c.in_err-invalid.ensures.err))))))
+    (later _ c.in_ok-separator.ensures.ok (later _ c.in_ok-fields.ensures.ok (later _ c.in_ok-padding.ensures.ok
+    (inl c.in_err-invalid.ensures.err)))))))
 
 -- the maximum is wrong
 pub returns-in_err-max-clause-err : goal.returns-in_err-max-clause-err
 returns-in_err-max-clause-err c =
-    error-passed (λ _. ⊤) (IsFirstWrong c.args.values.now) _ _ c.from_residual-in_err-max.ensures.1
+    error-passed (λ _. ⊤) (IsFirstWrong c.args.values.now c.args.fields) _ _ c.from_residual-in_err-max.ensures.1
     (later _ c.in_ok-binary.ensures.ok (later _ c.in_ok-given.ensures.ok (later _ c.in_ok-form.ensures.ok
-    (later _ c.in_ok-delimiter.ensures.ok (later _ c.in_ok-width.ensures.ok (later _ c.in_ok-invalid.ensures.ok
-    (inl c.in_err-max.ensures.err)))))))
+    (later _ c.in_ok-separator.ensures.ok (later _ c.in_ok-fields.ensures.ok (later _ c.in_ok-padding.ensures.ok
+    (later _ c.in_ok-invalid.ensures.ok
+    (inl c.in_err-max.ensures.err))))))))
 
 -- the minimum is wrong
 pub returns-in_err-min-clause-err : goal.returns-in_err-min-clause-err
 returns-in_err-min-clause-err c =
-    error-passed (λ _. ⊤) (IsFirstWrong c.args.values.now) _ _ c.from_residual-in_err-min.ensures.1
+    error-passed (λ _. ⊤) (IsFirstWrong c.args.values.now c.args.fields) _ _ c.from_residual-in_err-min.ensures.1
     (later _ c.in_ok-binary.ensures.ok (later _ c.in_ok-given.ensures.ok (later _ c.in_ok-form.ensures.ok
-    (later _ c.in_ok-delimiter.ensures.ok (later _ c.in_ok-width.ensures.ok (later _ c.in_ok-invalid.ensures.ok
-    (later _ c.in_ok-max.ensures.ok c.in_err-min.ensures.err)))))))
+    (later _ c.in_ok-separator.ensures.ok (later _ c.in_ok-fields.ensures.ok (later _ c.in_ok-padding.ensures.ok
+    (later _ c.in_ok-invalid.ensures.ok
+    (later _ c.in_ok-max.ensures.ok c.in_err-min.ensures.err))))))))

@@ -1,7 +1,7 @@
 -- A field that the parser accepts is a size.
-use Rattle.std.proofs.Common.{Some, inl, inr, ap, ◌∙◌, subst}
+use Rattle.std.proofs.Common.{Some, inl, inr, ap, sym, ◌∙◌, subst}
 use Rattle.byte_unit.specs.SizeReading.{without_location}
-use Rattle.byte_unit_command.specs.Field.{ignores_case, without_suffix}
+use Rattle.byte_unit_command.specs.Field.{IsNoSizeBy}
 use Rattle.byte_unit_command.specs.Prefixes.{IsBytesReadingBy}
 use Rattle.byte_unit_command.proofs.Readings.{sizes_or_not}
 use Rattle.byte_unit_command.proofs.notice.reason_of.Goals as goal
@@ -11,13 +11,14 @@ pub returns-in-Some-Ok : goal.returns-in-Some-Ok
 returns-in-Some-Ok c =
     let binary = c.args.options.now.binary in
     let kind = c.args.options.now.kind in
-    let ignore_case = ignores_case kind c.args.options.now.ignore_case in
-    let field = without_suffix c.args.options.now.suffix.now c.args.field.now in
+    let ignore_case = c.args.options.now.ignore_case in
+    let field = c.without_suffix-text.result.now in
     -- a pair: the text is UTF-8, and parsing it gives the size
     let read = subst (λ answer. IsBytesReadingBy binary kind ignore_case field (without_location answer))
     (c.in-Some-Ok.is ∙ ap Some c.in-Some-Ok.field-0-is) c.explain.ensures.reading in
     let law = sizes_or_not binary kind ignore_case field in
-    elim c.requires [
+    let none = subst (IsNoSizeBy c.args.options.now) (sym c.without_suffix-text.ensures) c.requires in
+    elim none [
       | inl no_text ↦ absurd (no_text read.0)
       | inr rejected ↦ absurd (law.not_both _ rejected.1.0 read.1.found rejected.1.1)
     ]

@@ -2,7 +2,7 @@
 use Rattle.std.proofs.Common.{◌≡◌, ℕ, List, [], Option, Err, Ok, Result, IsErrAnd, inl, refl, subst, sym}
 use Rattle.byte_unit_command.specs.Run.{IsRunOf}
 use Rattle.byte_unit_command.specs.State.{start_of}
-use Rattle.byte_unit_command.specs.declared.error.Reason.{Reason}
+use Rattle.byte_unit_command.specs.declared.error.EndReason.{EndReason}
 use Rattle.byte_unit_command.specs.declared.options.Options.{Options}
 use Rattle.byte_unit_command.specs.declared.streams.Streams.{Streams}
 use Rattle.byte_unit_command.specs.declared.tally.Tally.{Tally}
@@ -16,7 +16,7 @@ use Rattle.byte_unit_command.proofs.run.run.Goals as goal
 -- a run that is out of memory may have done nothing
 not_begun : {R W E : Type 0} (remaining : R → Option (List ℕ)) (contents : W → Option (List ℕ))
     (tells : E → Option (List ℕ)) (options : Options) (streams : Streams R W E)
-    (result : Result Tally (RunError Reason)) → IsErrAnd result (λ error. error ≡ Memory)
+    (result : Result Tally (RunError EndReason)) → IsErrAnd result (λ error. error ≡ Memory)
     → IsRunOf remaining contents tells options streams streams result
 not_begun remaining contents tells options streams (Ok tally) passed = absurd passed
 not_begun remaining contents tells options streams (Err error) passed =

@@ -8,7 +8,7 @@ pub returns-in-Exact-clause-written : goal.returns-in-Exact-clause-written
 returns-in-Exact-clause-written g c =
     let text = begins_with c.write_text.ensures.written
     (omega (arith, c.write_text.ensures.bound, c.requires.capacity)) in
-    rw (c.in-Exact.is, c.if-options.true, ← c.kind_of-kind.ensures) (record {
+    rw (c.in-Exact.is, c.if-options.true, ← c.kind_by_flag-kind.ensures) (record {
       form = text.form;
       is_form = c.binary_spec-spec.ensures.text text.form text.is_form;
       len_is = text.len_is;

@@ -20,7 +20,7 @@ returns-then-eq g c =
     let old = state_of c.args.self.now in
     let field = c.args.field.now in
     let told = c.in_ok-add_reject_notice.ensures.ok in
-    let mode : old.state.place.options.invalid ≡ Abort = search rules in
+    let mode : old.state.context.options.invalid ≡ Abort = search rules in
     let own : Output = record { text = field; found = None ∷ []; messages = told.0 } in
     let first : c.args.number ≡ c.args.number + 0 = omega arith in record {
       keeps = (IsBeginningOf-self old.out, (told.0, told.2), refl);
@@ -38,7 +38,7 @@ returns-then-eq g c =
             fields_are = refl;
             are_fields = tt;
             none_before = refl;
-            is_field = subst (λ number. IsField old.state.place number field own) first
+            is_field = subst (λ number. IsField old.state.context number field own) first
                 (rejected told.0 c.requires.chosen c.requires.none told.1 refl);
             is_rejected = refl;
             messages_are = refl;
@@ -65,11 +65,11 @@ returns g c =
     let old = state_of c.args.self.now in
     let field = c.args.field.now in
     let told = c.in_ok-add_reject_notice.ensures.ok in
-    let goes_on : ¬ (old.state.place.options.invalid ≡ Abort) = search rules in
+    let goes_on : ¬ (old.state.context.options.invalid ≡ Abort) = search rules in
     AddsFields-one c.args.number field old _ (record { text = field; found = None ∷ []; messages = told.0 })
     (rejected told.0 c.requires.chosen c.requires.none told.1 refl) (λ abort. absurd (goes_on abort)) (record {
       state_is = refl;
-      counts = c.reject.ensures old.state.place.options;
+      counts = c.reject.ensures old.state.context.options;
       out_is = c.in_ok-extend_from_slice.ensures.items;
       messages_are = told.2;
     })

@@ -9,7 +9,7 @@ use Rattle.byte_unit_command.proofs.converter.Converter.add_split.Given as goal
 -- the fields before the rest are added, and the ranges that are left are those from the next field on
 abbrev pub invariant-loop-n : goal.invariant-loop-n
 invariant-loop-n g l =
-    let fields = l.initial.self.place.options.now.fields.now in
+    let fields = l.initial.self.context.options.now.fields.now in
     IsSplitting l.bytes (state_of l.initial.self) l.number l.rest (state_of l.self)
     × AreRangesFrom fields l.number l.ranges
 

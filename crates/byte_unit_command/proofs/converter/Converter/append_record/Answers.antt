@@ -1,26 +1,22 @@
 -- A header record is copied, and the fields of any other are added; the end byte follows.
-use Rattle.std.proofs.Common.{◌≡◌, ◌-◌, ◌++◌, List, ℕ, suc, ap, subst, sym, ◌∙◌, arith, inl, refl}
-use Rattle.byte_unit_command.specs.CallEnds.{AddsFields, Appends, IsEarly, IsEarlyAt, Keeps, state_of}
+use Rattle.std.proofs.Common.{◌≡◌, ◌-◌, ◌++◌, List, ℕ, suc, ap, subst, sym, ◌∙◌, arith}
+use Rattle.byte_unit_command.specs.CallEnds.{AddsFields, Appends, state_of}
 use Rattle.byte_unit_command.specs.Fields.{fields_of}
 use Rattle.byte_unit_command.specs.Output.{copied}
 use Rattle.byte_unit_command.specs.State.{RunState}
 use Rattle.byte_unit_stream.specs.Steps.{Progress}
-use Rattle.byte_unit_stream.specs.declared.run.RunError.TheVariants.{Memory}
-use Rattle.byte_unit_stream.proofs.Beginnings.{IsBeginningOf-same, IsBeginningOf-self}
-use Rattle.byte_unit_command.proofs.Converting.{Adds-header, Adds-fields, Appends-more, Appends-none, IsEarlyAt-fields}
-use Rattle.byte_unit_command.proofs.Converting.{Keeps-more, at_next, started}
-use Rattle.byte_unit_command.proofs.Results.{error-passed}
+use Rattle.byte_unit_command.proofs.Converting.{Adds-header, Adds-fields, Appends-more, Appends-none, at_next, started}
 use Rattle.byte_unit_command.proofs.converter.Converter.append_record.Goals.{then-self-gt0+in_ok-extend_from_slice}
 use Rattle.byte_unit_command.proofs.converter.Converter.append_record.Goals.{else-self-gt0+in_ok-add_fields}
 use Rattle.byte_unit_command.proofs.converter.Converter.append_record.Goals as goal
 
 -- a run with this number of the last record
 abbrev numbered : Progress RunState → ℕ → Progress RunState
-numbered old number = record old { state = record old.state { place = record old.state.place { number = number } } }
+numbered old number = record old { state = record old.state { context = record old.state.context { number = number } } }
 
 -- a header record was copied
 header-copied : (bytes out : List ℕ) (old between : Progress RunState) (number : ℕ)
-    → number ≡ (at_next old).state.place.number → out ≡ old.out ++ bytes
+    → number ≡ (at_next old).state.context.number → out ≡ old.out ++ bytes
     → between ≡ record (numbered old number) {
       state = record (numbered old number).state
           { header = old.state.header - 1 };
@@ -49,43 +45,9 @@ returns g c =
           w.in_ok-extend_from_slice.ensures.items (ap state_of w.self-is))
       | else-self-gt0+in_ok-add_fields w ↦
           let none : old.state.header ≡ 0 = omega (arith, w.if-self-gt0.false) in
-          let fields = fields_of old.state.place.options bytes in
+          let fields = fields_of old.state.context.options bytes in
           Adds-fields bytes old between out out_is none
           (subst (AddsFields 1 fields (at_next old)) (sym (ap state_of w.self-is))
           (subst (λ number. AddsFields 1 fields (numbered old number) (state_of w.add_fields.new.self)) number.ensures
           w.in_ok-add_fields.ensures))
     ]
-
--- the fields of the record could not be added
-pub returns-in_err-add_fields : goal.returns-in_err-add_fields
-returns-in_err-add_fields g c =
-    let bytes = c.args.bytes.now in
-    let old = state_of c.args.self.now in
-    let new = state_of c.add_fields.new.self in
-    let none : old.state.header ≡ 0 = omega (arith, c.if-self-gt0.false) in
-    error-passed _ (IsEarlyAt bytes old new) _ _ c.from_residual-in_err-add_fields.ensures.1
-    (IsEarlyAt-fields bytes old new _ none
-    (subst (λ number. IsEarly 1 (fields_of old.state.place.options bytes) (numbered old number) new
-    c.in_err-add_fields.field-0.0) c.saturating_add-self.ensures c.in_err-add_fields.ensures))
-
--- the end byte could not be appended
-pub returns-in_err-extend_from_slice-2 : goal.returns-in_err-extend_from_slice-2
-returns-in_err-extend_from_slice-2 g c =
-    let bytes = c.args.bytes.now in
-    let old = state_of c.args.self.now in
-    let between = state_of c.if-self-gt0.self in
-    let out = c.extend_from_slice-2.new.self.items in
-    let new = record between { out = out } in
-    let begins = IsBeginningOf-same between.out c.in_err-extend_from_slice-2.ensures.items
-    (IsBeginningOf-self between.out) in
-    let number = c.saturating_add-self in
-    let keeps : Keeps old new = elim c.if-self-gt0.branch [
-      | then-self-gt0+in_ok-extend_from_slice w ↦
-          Keeps-more (header-copied bytes w.extend_from_slice.new.self.items old between number.result number.ensures
-          w.in_ok-extend_from_slice.ensures.items (ap state_of w.self-is)) out begins
-      | else-self-gt0+in_ok-add_fields w ↦
-          Keeps-more (subst (AddsFields 1 (fields_of old.state.place.options bytes) (numbered old number.result))
-          (sym (ap state_of w.self-is)) w.in_ok-add_fields.ensures).appends out begins
-    ] in
-    error-passed _ (IsEarlyAt bytes old new) _ Memory c.from_residual-in_err-extend_from_slice-2.ensures.1
-    (record { keeps = keeps; why = inl refl })
