@@ -97,8 +97,8 @@ pub(crate) fn div_rem_by_inverse(
     }
 }
 
-/// Returns the quotient and the remainder by a constant of at most 2^24, which LLVM compiles to multiplications: in 64
-/// bits if the dividend fits, and else by a long division in base 2^40.
+/// Returns the quotient and the remainder by a constant of at most 2^24: in 64 bits if the dividend fits, and else by a
+/// long division in base 2^40.
 #[inline(always)]
 #[tactic(auto, using(crate::proofs::Estimates::long_division))]
 pub(crate) fn div_rem_u24(dividend: u128, divisor: u64) -> (u128, u128)
@@ -156,8 +156,8 @@ pub(crate) fn split_last_16_digits(n: u128) -> (u128, u64)
     (before, last as u64)
 }
 
-/// Returns the quotient and the remainder by a number that is often a power of 2, as the bits of a binary unit are: that
-/// takes a shift and a mask. Inlined, so that the test of the divisor is made once, before a loop.
+/// Returns the quotient and the remainder by the bits of a unit. If these are a power of 2, as of a binary unit, that takes
+/// a shift and a mask.
 #[inline(always)]
 pub(crate) fn div_rem_unit(dividend: u128, divisor: u128) -> (u128, u128)
     requires { 1 ≤ divisor }
