@@ -8,9 +8,7 @@ use crate::rendered::command::size::ignores_case;
 use crate::rendered::command::values::Values;
 use crate::rendered::command::wrong::{ValueError, Wrong};
 use byte_unit::rendered::base::{ParseError, size};
-
-/// The most digits after the point that the exact form has: the library takes a greater precision as 28.
-const DECIMAL_PLACES: u16 = 28;
+use byte_unit::rendered::math::DECIMAL_PLACES;
 
 /// Returns the options of a call. `fields` are those that `field_list::fields_of` returned.
 ///
@@ -98,7 +96,7 @@ fn form_of<'a>(values: &Values<'a>) -> Result<Form, Wrong<'a>> {
     let value = values.to.unwrap_or(default);
     match value {
         "exact" => match values.precision {
-            Some(precision) if precision > DECIMAL_PLACES => {
+            Some(precision) if u32::from(precision) > DECIMAL_PLACES => {
                 Err(Wrong { option: "--precision", value: None, reason: ValueError::Precision })
             }
             Some(_) | None => Ok(Form::Exact),
