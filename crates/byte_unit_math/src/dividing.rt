@@ -5,8 +5,8 @@ ghost use Rattle.byte_unit_math.specs.Inverse.{HasInverse};
 ghost use Rattle.byte_unit_math.specs.Nearest.{IsNearest};
 ghost use Rattle.byte_unit_math.specs.declared.expansion.Ties.TheVariants.{Even};
 
-/// The number of digits that a step of a long division takes: the remainder, below a denominator of at most 10^28, times
-/// 10^10 fits 128 bits.
+/// The number of digits that a step of a long division takes: the remainder, below a denominator of at most 10^28,
+/// times 10^10 fits 128 bits.
 pub(crate) const GROUP_DIGITS: u32 = 10;
 
 /// 10^16, the radix of groups of 16 digits: as many bytes as a vector `u8x16` has.
@@ -97,8 +97,8 @@ pub(crate) fn div_rem_by_inverse(
     }
 }
 
-/// Returns the quotient and the remainder by a constant of at most 2^24: in 64 bits if the dividend fits, and else by a
-/// long division in base 2^40.
+/// Returns the quotient and the remainder by a constant of at most 2^24: in 64 bits if the dividend fits, and else by
+/// a long division in base 2^40.
 #[inline(always)]
 #[tactic(auto, using(crate::proofs::Estimates::long_division))]
 pub(crate) fn div_rem_u24(dividend: u128, divisor: u64) -> (u128, u128)
@@ -156,8 +156,8 @@ pub(crate) fn split_last_16_digits(n: u128) -> (u128, u64)
     (before, last as u64)
 }
 
-/// Returns the quotient and the remainder by the bits of a unit. If these are a power of 2, as of a binary unit, that takes
-/// a shift and a mask.
+/// Returns the quotient and the remainder by the bits of a unit. If these are a power of 2, as of a binary unit, that
+/// takes a shift and a mask.
 #[inline(always)]
 pub(crate) fn div_rem_unit(dividend: u128, divisor: u128) -> (u128, u128)
     requires { 1 ≤ divisor }

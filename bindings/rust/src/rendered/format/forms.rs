@@ -44,8 +44,8 @@ pub fn write_text(size: u128, kind: Kind, spec: FormatSpec, out: &mut [impl Plac
     text_parts(size, kind, spec).write(out)
 }
 
-/// Returns how a size is formatted if a decimal prefix would be read as the binary one: in the alternate form within the
-/// precision if the unit that this form chooses has a binary prefix, and else as digits.
+/// Returns how a size is formatted if a decimal prefix would be read as the binary one: in the alternate form within
+/// the precision if the unit that this form chooses has a binary prefix, and else as digits.
 ///
 /// Precondition: the size is below 10^30.
 ///

@@ -2,8 +2,8 @@
 
 //! Division of 128 bits, with remainder or rounded, by constants, and by the bits of a unit.
 
-/// The number of digits that a step of a long division takes: the remainder, below a denominator of at most 10^28, times
-/// 10^10 fits 128 bits.
+/// The number of digits that a step of a long division takes: the remainder, below a denominator of at most 10^28,
+/// times 10^10 fits 128 bits.
 pub(crate) const GROUP_DIGITS: u32 = 10;
 
 /// 10^16, the radix of groups of 16 digits: as many bytes as a vector `u8x16` has.
@@ -63,8 +63,8 @@ pub(crate) fn div_rem_by_inverse(dividend: u128, divisor: u64, inverse: u64, cut
     if rest < divisor { (estimate, rest) } else { (estimate + 1, rest - divisor) }
 }
 
-/// Returns the quotient and the remainder by a constant of at most 2^24: in 64 bits if the dividend fits, and else by a
-/// long division in base 2^40.
+/// Returns the quotient and the remainder by a constant of at most 2^24: in 64 bits if the dividend fits, and else by
+/// a long division in base 2^40.
 #[inline(always)]
 pub(crate) fn div_rem_u24(dividend: u128, divisor: u64) -> (u128, u128) {
     if dividend < 1 << 64 {
@@ -106,8 +106,8 @@ pub(crate) fn split_last_16_digits(n: u128) -> (u128, u64) {
     (before, last as u64)
 }
 
-/// Returns the quotient and the remainder by the bits of a unit. If these are a power of 2, as of a binary unit, that takes
-/// a shift and a mask.
+/// Returns the quotient and the remainder by the bits of a unit. If these are a power of 2, as of a binary unit, that
+/// takes a shift and a mask.
 #[inline(always)]
 pub(crate) fn div_rem_unit(dividend: u128, divisor: u128) -> (u128, u128) {
     let twos = divisor.trailing_zeros();
