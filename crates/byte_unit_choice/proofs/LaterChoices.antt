@@ -9,7 +9,7 @@ use Rattle.byte_unit_choice.specs.Family.{InFamily}
 use Rattle.byte_unit_choice.specs.Choice.{IsLargest, IsExactUnitIn, places_within}
 use Rattle.byte_unit_choice.specs.ChoiceLaws.{Divides, MorePlacesGiveNoSmallerUnit, NumberTimesUnitIsSize}
 use Rattle.byte_unit_choice.specs.declared.choice.Family.{Family}
-use Rattle.byte_unit_choice.proofs.Quotients.{exact_more}
+use Rattle.byte_unit_math.proofs.Expanding.{exact_more}
 use Rattle.byte_unit_choice.proofs.Choosing.{some_bits}
 use Rattle.byte_unit_choice.proofs.SomeChoice.{choice_or_none}
 

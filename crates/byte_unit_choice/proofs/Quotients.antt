@@ -7,13 +7,6 @@ use Rattle.byte_unit_math.specs.Bounds.{places_of_decimal, scale}
 use Rattle.byte_unit_math.specs.Exact.{IsExactAt, IsLeastPlaces, IsQuotient}
 use Rattle.byte_unit_math.proofs.Scales.{pow10_split}
 
--- a size that is exact at some number of places is exact at each greater number of places
-pub exact_more : (size unit few more : ℕ) → few ≤ more → IsExactAt size unit few → IsExactAt size unit more
-exact_more size unit few more h e =
-    let p = ap (λ n. size * n) (pow10_split few more h) in
-    let q = ap (λ n. n * 10 ^ (more - few)) e.1 in
-    (e.0 * 10 ^ (more - few), p ∙ omega (arith, q))
-
 -- if a number times the unit is the size, it is the exact quotient at each number of places at which the size is exact
 pub quotient_of_product : (size unit places number : ℕ) → 1 ≤ unit → places ≤ places_of_decimal
     → number * unit ≡ size * scale → IsExactAt size unit places → IsQuotient size unit places number

@@ -95,7 +95,7 @@ pub fn choose_unit(
     // few prefixes.
     let first = (most_twos / 10).max(most_fives / 3);
     for row in multiples_within(family, in_bits, first) {
-        // Non-short-circuiting `&`: one branch instead of three that are hard to predict.
+        // With `&&`, the row `places` of docs/SPEED.md takes seven instructions more.
         if (row.bits <= in_bits) & (row.twos <= most_twos) & (row.fives <= most_fives) {
             let lacking = row.twos.saturating_sub(twos);
             // Each place supplies one factor 2 and one factor 5, so there are as many as the size lacks of either.
@@ -233,8 +233,6 @@ pub fn appropriate_unit(size: u128, kind: Kind, unit_type: UnitType) -> Unit
 
 /// Returns the units of the first `first` prefixes, the largest first, without those whose prefix is too large for a
 /// size of `in_bits` bits: the number of bits of a unit of the n-th prefix has at least 10 n binary digits.
-///
-/// `#[inline(always)]`: most callers have a constant unit set.
 #[inline(always)]
 fn multiples_within(family: Family, in_bits: u128, first: u32) -> &'static [UnitRow]
     ensures { ListsUnits family in_bits first result.now }

@@ -2,7 +2,7 @@
 use Rattle.std.specs.Prelude.{◌≡◌, ℕ, ◌-◌, ◌*◌, Bool, true, false, if◌then◌else◌, List, ◌++◌, length, replicate}
 use Rattle.std.specs.Prelude.{take, Option}
 use Rattle.byte_unit.specs.Adjusted.{IsAdjustedForm, IsNumeralBy, rule_of}
-use Rattle.byte_unit.specs.BinaryString.{has_binary_prefix}
+use Rattle.byte_unit.specs.BinaryString.{binary_spec}
 use Rattle.byte_unit.specs.Choice.{IsAppropriate, IsRecovered}
 use Rattle.byte_unit.specs.Forms.{IsText, places_of}
 use Rattle.byte_unit.specs.Kinds.{bits_in}
@@ -30,7 +30,7 @@ abbrev pub IsExactText : Bool → Kind → Option ℕ → ℕ → List ℕ → T
 IsExactText false kind precision size text = IsText kind size (exact_spec precision) text
 IsExactText true kind precision size text =
     (unit : UnitName) × IsRecovered kind false size (places_of precision) unit
-    × IsText kind size (if has_binary_prefix (shape_of unit) then exact_spec precision else plain_spec) text
+    × IsText kind size (binary_spec precision (shape_of unit)) text
 
 -- the text of a size in a form: in the exact form; as digits; in the given unit; as the number of that unit alone; in
 -- the largest unit of the type that is not above the size. Only the exact form depends on what a decimal prefix means

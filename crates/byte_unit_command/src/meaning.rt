@@ -18,9 +18,7 @@ use crate::options::{Form, Invalid, Kind, Options, Separator, Unit, UnitType};
 use crate::size::explain;
 use crate::values::Values;
 use crate::wrong::{ValueError, Wrong};
-
-/// The most digits after the point that the exact form has: the library takes a greater precision as 28.
-const DECIMAL_PLACES: u16 = 28;
+use byte_unit_math::DECIMAL_PLACES;
 
 /// The value of `--padding`.
 #[derive(Clone, Copy)]
@@ -137,7 +135,7 @@ fn form_of<'a>(values: &Values<'a>) -> Result<Form, Wrong<'a>>
     let value = values.to.unwrap_or(default);
     match value {
         "exact" => match values.precision {
-            Some(precision) if precision > DECIMAL_PLACES => Err(Wrong {
+            Some(precision) if u32::from(precision) > DECIMAL_PLACES => Err(Wrong {
                 option: "--precision",
                 value: None,
                 reason: ValueError::Precision,

@@ -13,6 +13,8 @@ use crate::options::{Form, Invalid, Options};
 use crate::streams::Streams;
 use crate::tally::{TOTAL_LIMIT, Tally};
 use crate::text::{DIGITS, add_in_width};
+use byte_unit_format::NARROW_TEXT;
+use byte_unit_math::EXPANSION_PLACES;
 use byte_unit_stream::run::{Steps, run_steps};
 use std::alloc::{Allocator, Global};
 use std::io::{Read, Write};
@@ -198,13 +200,6 @@ impl<'a, A: Allocator> Steps for Converter<'a, A> {
     }
 }
 
-/// The most bytes of the text of a size in its own unit, or as digits; and one more than the most of one in a given
-/// unit, but for the digits after the point.
-const NARROW_TEXT: usize = 37;
-
-/// The most digits after the point of a size in a given unit, but for zeros: a bit is 1 / 2^93 RiB, the largest unit.
-const UNIT_PLACES: usize = 93;
-
 /// The most bytes that the texts of the sizes of one read may take, if each byte of it begins a field: 40 bytes for
 /// each of 65,536. So [`run`] reads a whole chunk at once if no text is longer and no messages are
 /// counted.
@@ -240,8 +235,9 @@ fn text_max(options: &Options) -> usize
     let number_len = match options.form {
         Form::Exact | Form::Plain => NARROW_TEXT,
         Form::InUnit(_) | Form::NumberOf(_) | Form::Largest(_) => match options.precision {
-            None => NARROW_TEXT + UNIT_PLACES,
-            Some(precision) => NARROW_TEXT + UNIT_PLACES.max(precision as usize),
+            // But for the digits after the point, a size in a given unit takes fewer bytes than a narrow text.
+            None => NARROW_TEXT + EXPANSION_PLACES,
+            Some(precision) => NARROW_TEXT + EXPANSION_PLACES.max(precision as usize),
         },
     };
     let len = number_len + options.suffix.len();

@@ -1,21 +1,19 @@
 //! Writes and appends the text of a size.
 
 ghost use Rattle.std.specs.Prelude.{◌≡◌, ◌<◌, ◌≤◌, ◌++◌, ℕ, List, length, replicate, OnOk, true, false};
-ghost use Rattle.byte_unit.specs.BinaryString.{has_binary_prefix as is_binary};
 ghost use Rattle.byte_unit.specs.Bounds.{size_limit};
-ghost use Rattle.byte_unit.specs.Forms.{IsText, places_of, text_limit};
+ghost use Rattle.byte_unit.specs.Forms.{text_limit};
 ghost use Rattle.byte_unit.specs.Units.{shape_of};
 ghost use Rattle.byte_unit_stream.specs.Beginnings.{IsBeginningOf};
-ghost use Rattle.byte_unit_command.specs.Formatted.{BeginsWithForm, IsExactText, IsFormText, IsFormatted};
+ghost use Rattle.byte_unit_command.specs.Formatted.{BeginsWithForm, IsFormText, IsFormatted};
 ghost use Rattle.byte_unit_command.specs.Formatted.{exact_spec as spec_of_exact, padded};
 ghost use Rattle.byte_unit_command.specs.Values.{kind_by_flag};
 
 use crate::options::{Form, Kind, Options, Unit};
 use crate::values::kind_by_flag;
 use byte_unit::FormatSpec;
-use byte_unit_choice::{appropriate_unit, recoverable_unit};
-use byte_unit_format::{write_adjusted, write_text};
-use byte_unit_math::Steps;
+use byte_unit_choice::appropriate_unit;
+use byte_unit_format::{binary_spec, write_adjusted, write_text};
 use std::alloc::{AllocError, Allocator};
 
 /// The most bytes of a text that are copied in one piece of a constant length. Most texts are shorter.
@@ -174,35 +172,6 @@ fn write_as<const BITS: bool>(options: &Options, size: u128, out: &mut [u8]) -> 
     }
 }
 
-/// Returns how a size is formatted in the exact form where a decimal prefix means the binary one: as digits, unless its
-/// unit has a binary prefix.
-///
-/// Precondition (proved at every call): `size` is less than 10^30.
-#[inline(never)]
-fn binary_spec(size: u128, kind: Kind, precision: Option<u16>) -> FormatSpec
-    requires { size < size_limit }
-    ensures text { (text : List ℕ) → IsText kind size result text
-        → IsExactText true kind precision size text }
-{
-    let places = places_of(precision);
-    let (_, unit) = recoverable_unit(size, kind, false, places, &mut Steps::new());
-    if has_binary_prefix(unit) {
-        exact_spec(precision)
-    } else {
-        FormatSpec::PLAIN
-    }
-}
-
-/// Returns the most digits after the point of a size with a unit, within this precision.
-fn places_of(precision: Option<u16>) -> usize
-    ensures { result ≡ places_of precision }
-{
-    match precision {
-        Some(precision) => usize::from(precision),
-        None => 3,
-    }
-}
-
 /// Returns how a size is formatted with a unit, within this precision.
 #[inline(always)]
 fn exact_spec(precision: Option<u16>) -> FormatSpec
@@ -211,16 +180,6 @@ fn exact_spec(precision: Option<u16>) -> FormatSpec
     FormatSpec {
         precision,
         ..FormatSpec::ALTERNATE
-    }
-}
-
-/// Returns `true` if the unit has a binary prefix.
-fn has_binary_prefix(unit: Unit) -> bool
-    ensures { result ≡ is_binary (shape_of unit) }
-{
-    match unit {
-        Unit::Bit | Unit::B => false,
-        _ => unit.is_binary_multiples(),
     }
 }
 

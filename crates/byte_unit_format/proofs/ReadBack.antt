@@ -48,7 +48,7 @@ use Rattle.byte_unit_format.specs.AdjustedString.{IsAdjustedString}
 use Rattle.byte_unit_format.specs.declared.spec.TheConstants.FormatSpec.{ALTERNATE}
 use Rattle.byte_unit_base.specs.declared.unit.Unit.{Unit as UnitName}
 use Rattle.byte_unit_base.proofs.LongFractions.{long_fault}
-use Rattle.byte_unit_choice.proofs.Quotients.{exact_more}
+use Rattle.byte_unit_math.proofs.Expanding.{exact_more}
 
 -- Units of the kind's own unit set are read in their kind: where bits are read, case is significant.
 own_says : (kind : Kind) (ignore_case bit : Bool) → HasKind (own_family kind) bit

@@ -18,7 +18,7 @@ use byte_unit_math::{decimal_len, put_u128};
 
 /// The most bytes of a text without a width: 27 digits, a point, 5 digits, a space and three letters, as of some sizes
 /// in `KiB` at a precision of 5.
-pub(crate) const NARROW_TEXT: usize = 37;
+pub const NARROW_TEXT: usize = 37;
 
 /// Writes the size in its unit to the beginning of `out`, and returns its length.
 #[inline(always)]

@@ -1,18 +1,20 @@
 //! Formatting of a size: digits only, or with a unit.
 
-ghost use Rattle.std.specs.Prelude.{◌≡◌, ℕ, ◌<◌, ◌≤◌, List, length};
+ghost use Rattle.std.specs.Prelude.{◌≡◌, ℕ, ◌<◌, ◌≤◌, List, length, None};
 ghost use Rattle.byte_unit_math.specs.Bounds.{size_limit};
+ghost use Rattle.byte_unit_base.specs.Units.{shape_of};
 ghost use Rattle.byte_unit_format.specs.Room.{AppendsForm};
 ghost use Rattle.byte_unit_format.specs.TextParts.{IsReady, parts_text};
 ghost use Rattle.byte_unit_format.specs.Written.{WritesForm};
-ghost use Rattle.byte_unit_format.specs.Forms.{IsText, narrow_text, text_limit};
+ghost use Rattle.byte_unit_format.specs.BinaryString.{IsBinarySpec, has_binary_prefix as is_binary};
+ghost use Rattle.byte_unit_format.specs.Forms.{IsText, narrow_text, text_limit, places_of as most_places_of};
 
 use crate::alternate::{NARROW_TEXT, put_form};
 use crate::layout::layout_parts;
 use crate::parts::{Fraction, TextParts};
 use crate::plain::plain_parts;
 use crate::spec::FormatSpec;
-use byte_unit_base::Kind;
+use byte_unit_base::{Kind, Unit};
 use byte_unit_choice::recoverable_unit;
 use byte_unit_math::Steps;
 use std::alloc::{AllocError, Allocator};
@@ -87,6 +89,52 @@ pub fn write_text(size: u128, kind: Kind, spec: FormatSpec, out: &mut [u8]) -> u
     text_parts(size, kind, spec).write(out)
 }
 
+/// Returns how a size is formatted if a decimal prefix would be read as the binary one: in the alternate form within
+/// the precision if the unit that this form chooses has a binary prefix, and else as digits.
+///
+/// Precondition (proved at every call): the size is below 10^30.
+///
+/// # Examples
+/// ```rust
+/// assert_eq!(rt; binary_spec(1536, Kind::Byte, None), FormatSpec::ALTERNATE);
+/// assert_eq!(rt; binary_spec(1000, Kind::Byte, None), FormatSpec::PLAIN);
+/// ```
+#[inline(never)]
+pub fn binary_spec(size: u128, kind: Kind, precision: Option<u16>) -> FormatSpec
+    requires { size < size_limit }
+    ensures spec { IsBinarySpec kind precision size result }
+    ensures narrow { result.width ≡ None }
+{
+    let places = places_of(precision);
+    let (_, unit) = recoverable_unit(size, kind, false, places, &mut Steps::new());
+    if has_binary_prefix(unit) {
+        FormatSpec {
+            precision,
+            ..FormatSpec::ALTERNATE
+        }
+    } else {
+        FormatSpec::PLAIN
+    }
+}
+
+/// Returns whether the unit has a binary prefix.
+fn has_binary_prefix(unit: Unit) -> bool
+    ensures { result ≡ is_binary (shape_of unit) }
+{
+    !matches!(unit, Unit::Bit | Unit::B) && unit.is_binary_multiples()
+}
+
+/// Returns the most digits after the point within the precision.
+#[inline(always)]
+fn places_of(precision: Option<u16>) -> usize
+    ensures { result ≡ most_places_of precision }
+{
+    match precision {
+        Some(precision) => usize::from(precision),
+        None => DEFAULT_PRECISION,
+    }
+}
+
 /// Returns the parts of a formatted size. In the alternate form all digits of the number are shown.
 #[inline(always)]
 fn text_parts(size: u128, kind: Kind, spec: FormatSpec) -> TextParts<'static>
@@ -99,10 +147,7 @@ fn text_parts(size: u128, kind: Kind, spec: FormatSpec) -> TextParts<'static>
     if !spec.alternate {
         return plain_parts(size, spec);
     }
-    let places = match spec.precision {
-        Some(precision) => usize::from(precision),
-        None => DEFAULT_PRECISION,
-    };
+    let places = places_of(spec.precision);
     let (number, unit) = recoverable_unit(size, kind, false, places, &mut Steps::new());
     let fraction = Fraction::Last(number.digits(), number.places());
     layout_parts(number.whole(), fraction, unit, spec)

@@ -89,7 +89,6 @@ pub(crate) fn layout_parts<'a>(
     ensures ready { IsReady result }
 {
     let number = decimal_len(whole) + fraction.len();
-    // Looked up late on purpose: earlier, LLVM emits a jump table instead of a load.
     let name = unit.as_str();
     let gap = match spec.sign {
         Sign::Unset => 1,

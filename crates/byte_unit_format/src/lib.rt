@@ -18,7 +18,8 @@ mod with_digits;
 pub use adjusted::{
     adjusted_len, append_adjusted, display_adjusted, number_in_unit, write_adjusted,
 };
-pub use forms::{append_text, text_len, write_text};
+pub use alternate::NARROW_TEXT;
+pub use forms::{append_text, binary_spec, text_len, write_text};
 pub use layout::{append_layout, layout_len, write_layout};
 pub use parts::put;
 pub use plain::{append_plain, plain_len, write_plain};

@@ -35,7 +35,6 @@ pub fn write_with_digits(size: u128, kind: Kind, between: [u8; 3], out: &mut [u8
     ensures text { IsTextWithDigits kind size between (take result out.new) }
     ensures bound { result ≤ with_digits_text }
 {
-    // The cast tells the compiler that it can divide in 64 bits.
     if size < 1 << 64 {
         put_with_digits(u128::from(size as u64), kind, between, out)
     } else {

@@ -12,7 +12,7 @@ use Rattle.std.proofs.Math.Nat.{eq_of_mul-eq-mul_right, mul-div_cancel, mul-le-m
 use Rattle.std.proofs.Math.Nat.{mul-sub}
 use Rattle.std.proofs.lemmas.Bool.{cases_lt}
 use Rattle.byte_unit_math.specs.Bounds.{expansion_places}
-use Rattle.byte_unit_math.specs.Exact.{IsExactAt}
+use Rattle.byte_unit_math.specs.Exact.{IsExactAt, IsLeastPlaces}
 use Rattle.std.specs.Int.{abs_diff}
 use Rattle.byte_unit_math.specs.Nearest.{IsNearest}
 use Rattle.byte_unit_math.specs.declared.expansion.Ties.{Ties}
@@ -152,6 +152,17 @@ same_places num den num' den' p count h exact =
     let power = ap (λ n. n * 10 ^ p) h.same in
     let times = ap (λ n. n * den) exact in
     eq_of_mul-eq-mul_right den' h.positive' (num * 10 ^ p) (count * den) (omega (arith, power, times))
+
+-- Equal fractions are exact with the same least number of digits after the point.
+pub IsLeastPlaces-same_fraction : {num den num' den' p : ℕ} → SameFraction num den num' den' → IsLeastPlaces num den p
+    → IsLeastPlaces num' den' p
+IsLeastPlaces-same_fraction {num} {den} {num'} {den'} {p} same h =
+    let swapped : SameFraction num' den' num den =
+    record { positive = same.positive'; positive' = same.positive; same = sym same.same } in
+    record {
+      has = (h.has.0, same_places num' den' num den p h.has.0 swapped h.has.1);
+      least = λ fewer k. h.least fewer (k.0, same_places num den num' den' fewer k.0 same k.1);
+    }
 
 -- Equal fractions have the same expansion.
 pub expansion_of_same_fraction :

@@ -1,5 +1,4 @@
--- Private: division by a constant as a multiplication by its inverse, and a step of a division by comparisons. No
--- public contract cites this file.
+-- Private: division by a constant as a multiplication by its inverse. No public contract cites this file.
 use Rattle.std.specs.Prelude.{◌≡◌, ℕ, ◌+◌, ◌*◌, ◌/◌, ◌^◌, ◌<◌, ◌≤◌}
 
 -- The conditions under which a multiplication replaces a division: the leading 64 bits of `n`, which are n / 2^cut,
@@ -14,10 +13,3 @@ pub record HasInverse (n divisor inverse cut shift : ℕ) : Type 0 where
   pub inverse_is : inverse ≡ 2 ^ (cut + shift) / divisor
   pub fits : inverse < 2 ^ 64
   pub close : 2 ^ 64 * divisor + 2 ^ (cut + shift) ≤ divisor * 2 ^ shift
-
--- The divisor is subtracted from the dividend, at most `times` times: how often, and what is left, which is below
--- `times` divisors.
-pub record IsSubtracted (dividend times divisor : ℕ) (result : ℕ × ℕ) : Type 0 where
-  pub bound : result.0 ≤ times
-  pub parts : result.0 * divisor + result.1 ≡ dividend
-  pub below : result.1 < times * divisor

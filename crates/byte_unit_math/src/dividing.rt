@@ -1,9 +1,13 @@
-//! Division of 128 bits, with remainder or rounded; by constants; and for one digit of a long division.
+//! Division of 128 bits, with remainder or rounded, by constants, and by the bits of a unit.
 ghost use Rattle.std.specs.Prelude.{◌≡◌, ℕ, ◌+◌, ◌*◌, ◌/◌, ◌%◌, ◌^◌, ◌<◌, ◌≤◌};
 ghost use Rattle.byte_unit_math.specs.Bounds.{unit_limit};
-ghost use Rattle.byte_unit_math.specs.Inverse.{HasInverse, IsSubtracted};
+ghost use Rattle.byte_unit_math.specs.Inverse.{HasInverse};
 ghost use Rattle.byte_unit_math.specs.Nearest.{IsNearest};
 ghost use Rattle.byte_unit_math.specs.declared.expansion.Ties.TheVariants.{Even};
+
+/// The number of digits that a step of a long division takes: the remainder, below a denominator of at most 10^28,
+/// times 10^10 fits 128 bits.
+pub(crate) const GROUP_DIGITS: u32 = 10;
 
 /// 10^16, the radix of groups of 16 digits: as many bytes as a vector `u8x16` has.
 pub(crate) const TEN_POW_16: u64 = 10_000_000_000_000_000;
@@ -93,8 +97,8 @@ pub(crate) fn div_rem_by_inverse(
     }
 }
 
-/// Returns the quotient and the remainder by a constant of at most 2^24, which LLVM compiles to multiplications: in 64
-/// bits if the dividend fits, and else by a long division in base 2^40.
+/// Returns the quotient and the remainder by a constant of at most 2^24: in 64 bits if the dividend fits, and else by
+/// a long division in base 2^40.
 #[inline(always)]
 #[tactic(auto, using(crate::proofs::Estimates::long_division))]
 pub(crate) fn div_rem_u24(dividend: u128, divisor: u64) -> (u128, u128)
@@ -152,64 +156,17 @@ pub(crate) fn split_last_16_digits(n: u128) -> (u128, u64)
     (before, last as u64)
 }
 
-/// Gives the quotient, which is a digit, and the remainder: four comparisons, which are faster than a division. It is a
-/// macro, since 128 bits take up to 66 % longer where 64 bits are enough.
-macro_rules! digit_and_rest {
-    ($subtract_multiple:ident, $dividend:expr, $divisor:expr) => {{
-        let (eights, rest) = $subtract_multiple($dividend, 8, $divisor);
-        let (fours, rest) = $subtract_multiple(rest, 4, $divisor);
-        let (twos, rest) = $subtract_multiple(rest, 2, $divisor);
-        let (ones, rest) = $subtract_multiple(rest, 1, $divisor);
-        (eights + fours + twos + ones, rest)
-    }};
-}
-
-/// Returns the quotient, which is a digit, and the remainder. Inlined, so that the tests of the divisor are made once,
-/// before a loop.
+/// Returns the quotient and the remainder by the bits of a unit. If these are a power of 2, as of a binary unit, that
+/// takes a shift and a mask.
 #[inline(always)]
-pub(crate) fn div_rem_digit(dividend: u128, divisor: u128) -> (u128, u128)
-    requires digit { dividend < 10 * divisor }
-    requires product_bound { 10 * divisor < 2 ^ 128 }
-    ensures digit { result.0 ≡ dividend / divisor }
+pub(crate) fn div_rem_unit(dividend: u128, divisor: u128) -> (u128, u128)
+    requires { 1 ≤ divisor }
+    ensures quotient { result.0 ≡ dividend / divisor }
     ensures rest { result.1 ≡ dividend % divisor }
 {
     let twos = divisor.trailing_zeros();
     if divisor >> twos == 1 {
-        // A power of 2 takes a shift and a mask.
         return (dividend >> twos, dividend & (divisor - 1));
     }
-    if divisor < 1 << 60 {
-        // Ten times the divisor fits 64 bits, and so does the dividend.
-        let (digit, rest) = digit_and_rest!(subtract_multiple_u64, dividend as u64, divisor as u64);
-        return (u128::from(digit), u128::from(rest));
-    }
-    digit_and_rest!(subtract_multiple, dividend, divisor)
-}
-
-/// Subtracts `times * divisor` if the dividend is at least that. Returns `times`, or else 0, and what is left.
-fn subtract_multiple(dividend: u128, times: u128, divisor: u128) -> (u128, u128)
-    requires once { dividend < 2 * (times * divisor) }
-    requires product_bound { times * divisor < 2 ^ 128 }
-    ensures { IsSubtracted dividend times divisor result }
-{
-    let multiple = times * divisor;
-    if dividend < multiple {
-        (0, dividend)
-    } else {
-        (times, dividend - multiple)
-    }
-}
-
-/// Subtracts as `subtract_multiple`, in 64 bits.
-fn subtract_multiple_u64(dividend: u64, times: u64, divisor: u64) -> (u64, u64)
-    requires once { dividend < 2 * (times * divisor) }
-    requires product_bound { times * divisor < 2 ^ 64 }
-    ensures { IsSubtracted dividend times divisor result }
-{
-    let multiple = times * divisor;
-    if dividend < multiple {
-        (0, dividend)
-    } else {
-        (times, dividend - multiple)
-    }
+    div_rem(dividend, divisor)
 }

@@ -5,7 +5,7 @@ ghost use Rattle.byte_unit_math.specs.Steps.{saturating_add};
 ghost use Rattle.byte_unit_math.specs.Exact.{IsExactAt, IsExactWithin, IsLeastPlaces, IsQuotient, IsFirstExact};
 ghost use Rattle.byte_unit_math.specs.Factored.{product_of};
 
-use crate::dividing::{div_rem, div_rem_digit, div_rem_u24};
+use crate::dividing::{GROUP_DIGITS, div_rem, div_rem_u24};
 use crate::tens::{POWERS_OF_FIVE, power_of_five, power_of_ten, power_of_two};
 use crate::{DECIMAL_PLACES, Decimal, Factors, Steps};
 
@@ -14,8 +14,8 @@ use crate::{DECIMAL_PLACES, Decimal, Factors, Steps};
 ///
 /// Precondition (proved at every call): `1 <= unit <= 2^93` and `size < 2^112`.
 ///
-/// Long division counts one step for each digit after the point, at most 28. It stops at the first number of places
-/// at which the quotient is exact, or else after all of them.
+/// Adds the steps of a long division digit by digit: one for each digit after the point, up to the first number of them
+/// at which the quotient is exact, or else for all that it may have.
 ///
 /// # Examples
 /// ```rust
@@ -40,16 +40,20 @@ pub fn exact_quotient(size: u128, unit: u128, places: u32, steps: &mut Steps) ->
     let mut fraction = 0;
     let mut digits = 0;
     while rest > 0 && digits < most {
-        steps.advance_by(1);
-        let (digit, left) = div_rem_digit(rest * 10, unit);
-        fraction = fraction * 10 + digit;
+        let count = GROUP_DIGITS.min(most - digits);
+        let power = power_of_ten(count);
+        let (group, left) = div_rem(rest * power, unit);
+        fraction = fraction * power + group;
         rest = left;
-        digits += 1;
+        digits += count;
     }
     if rest > 0 {
+        steps.advance_by(most);
         return None;
     }
-    Some(Decimal::from_digits(whole, fraction, digits))
+    let number = Decimal::from_digits(whole, fraction, digits);
+    steps.advance_by(number.places());
+    Some(number)
 }
 
 /// Returns `numerator / (2^twos * 5^fives)`, which is exact within `places` digits after the point, by long division;

@@ -45,7 +45,7 @@ pub(crate) const POWERS_OF_TEN: [u128; 39] = [
     100_000_000_000_000_000_000_000_000_000_000_000_000,
 ];
 
-/// Returns `10^exponent`, from a table: to compute a power takes longer than to parse a short string.
+/// Returns `10^exponent`, from a table.
 ///
 /// Precondition (proved at every call): `exponent <= 38`, the greatest whose power fits 128 bits.
 ///

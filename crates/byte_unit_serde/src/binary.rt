@@ -2,9 +2,8 @@
 
 ghost use Rattle.std.specs.Prelude.{◌≡◌, ℕ, List, true, None};
 ghost use Rattle.byte_unit.specs.BinaryReading.{IsBinaryAccepted, IsBinaryReading};
-ghost use Rattle.byte_unit.specs.BinaryString.{IsBinaryString, has_binary_prefix};
+ghost use Rattle.byte_unit.specs.BinaryString.{IsBinaryString};
 ghost use Rattle.byte_unit.specs.Forms.{IsText};
-ghost use Rattle.byte_unit.specs.Units.{shape_of};
 ghost use Rattle.byte_unit.specs.declared.Kind.TheVariants.{Byte as InBytes};
 ghost use Rattle.byte_unit_serde.specs.Returns.{ParsesSize, WritingSizeAs};
 ghost use Rattle.byte_unit_serde.specs.Serialized.{WritesSizeAs};
@@ -13,7 +12,8 @@ use crate::Sink;
 use crate::messages::size_reason;
 use crate::sizes::write_as;
 use crate::strings::{DeserializeString, SerializeString};
-use byte_unit::{Byte, FormatSpec, Kind, Unit};
+use byte_unit::{Byte, FormatSpec, Kind};
+use byte_unit_format::binary_spec;
 
 /// The ways to write and to read a size in bytes whose prefixes are by 1024.
 ///
@@ -54,21 +54,5 @@ fn spec_of(size: Byte) -> FormatSpec
         → IsBinaryString InBytes size text }
     ensures narrow { result.width ≡ None }
 {
-    // At three digits after the point, as many as `FormatSpec::ALTERNATE` allows.
-    let (_, unit) = size.get_recoverable_unit(false, 3);
-    if has_binary_prefix(unit) {
-        FormatSpec::ALTERNATE
-    } else {
-        FormatSpec::PLAIN
-    }
-}
-
-/// Returns whether the unit has a binary prefix.
-fn has_binary_prefix(unit: Unit) -> bool
-    ensures { result ≡ has_binary_prefix (shape_of unit) }
-{
-    match unit {
-        Unit::B => false,
-        _ => unit.is_binary_multiples(),
-    }
+    binary_spec(size.as_u128(), Kind::Byte, None)
 }

@@ -13,7 +13,7 @@ use crate::Sink;
 use crate::messages::size_reason;
 use crate::strings::{DeserializeString, SerializeString};
 use byte_unit::{Bit, Byte, FormatSpec, Kind};
-use byte_unit_format::write_text;
+use byte_unit_format::{NARROW_TEXT, write_text};
 
 /// Writes the text of a size of this kind by the spec as a string. Does not allocate.
 ///
@@ -32,8 +32,7 @@ pub(crate) fn write_as<S: Sink>(
     ensures exact { WritingSizeAs (λ size. IsText kind size spec)
         S.str_returns size out.old result out.new }
 {
-    // As long as the longest text without a width.
-    let mut bytes = [0; 37];
+    let mut bytes = [0; NARROW_TEXT];
     let len = write_text(size, kind, spec, &mut bytes);
     match std::str::from_utf8(&bytes[..len]) {
         Ok(text) => out.write_str(text),

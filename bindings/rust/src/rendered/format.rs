@@ -16,7 +16,8 @@ mod thousandths;
 mod with_digits;
 
 pub use adjusted::{adjusted_len, display_adjusted, number_in_unit, write_adjusted};
-pub use forms::{text_len, write_text};
+pub use alternate::NARROW_TEXT;
+pub use forms::{binary_spec, text_len, write_text};
 pub use layout::{layout_len, write_layout};
 pub use parts::put;
 pub use plain::{plain_len, write_plain};

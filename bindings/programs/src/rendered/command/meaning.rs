@@ -7,9 +7,7 @@ use crate::rendered::command::options::{Form, Invalid, Kind, Options, Separator,
 use crate::rendered::command::size::explain;
 use crate::rendered::command::values::Values;
 use crate::rendered::command::wrong::{ValueError, Wrong};
-
-/// The most digits after the point that the exact form has: the library takes a greater precision as 28.
-const DECIMAL_PLACES: u16 = 28;
+use byte_unit::rendered::math::DECIMAL_PLACES;
 
 /// The value of `--padding`.
 #[derive(Clone, Copy)]
@@ -106,7 +104,7 @@ fn form_of<'a>(values: &Values<'a>) -> Result<Form, Wrong<'a>> {
     let value = values.to.unwrap_or(default);
     match value {
         "exact" => match values.precision {
-            Some(precision) if precision > DECIMAL_PLACES => {
+            Some(precision) if u32::from(precision) > DECIMAL_PLACES => {
                 Err(Wrong { option: "--precision", value: None, reason: ValueError::Precision })
             }
             Some(_) | None => Ok(Form::Exact),

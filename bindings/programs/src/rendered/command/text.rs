@@ -6,10 +6,9 @@ use crate::rattle::Vec;
 use crate::rattle::alloc::{AllocError, Allocator};
 use crate::rendered::command::options::{Form, Kind, Options, Unit};
 use crate::rendered::command::values::kind_by_flag;
-use byte_unit::rendered::choice::{appropriate_unit, recoverable_unit};
+use byte_unit::rendered::choice::appropriate_unit;
 use byte_unit::rendered::format::FormatSpec;
-use byte_unit::rendered::format::{write_adjusted, write_text};
-use byte_unit::rendered::math::Steps;
+use byte_unit::rendered::format::{binary_spec, write_adjusted, write_text};
 
 /// The most bytes of a text that are copied in one piece of a constant length. Most texts are shorter.
 const AT_ONCE: usize = 64;
@@ -120,37 +119,10 @@ fn write_as<const BITS: bool>(options: &Options, size: u128, out: &mut [u8]) -> 
     }
 }
 
-/// Returns how a size is formatted in the exact form where a decimal prefix means the binary one: as digits, unless its
-/// unit has a binary prefix.
-///
-/// Precondition: `size` is less than 10^30.
-#[inline(never)]
-fn binary_spec(size: u128, kind: Kind, precision: Option<u16>) -> FormatSpec {
-    let places = places_of(precision);
-    let (_, unit) = recoverable_unit(size, kind, false, places, &mut Steps::new());
-    if has_binary_prefix(unit) { exact_spec(precision) } else { FormatSpec::PLAIN }
-}
-
-/// Returns the most digits after the point of a size with a unit, within this precision.
-fn places_of(precision: Option<u16>) -> usize {
-    match precision {
-        Some(precision) => usize::from(precision),
-        None => 3,
-    }
-}
-
 /// Returns how a size is formatted with a unit, within this precision.
 #[inline(always)]
 fn exact_spec(precision: Option<u16>) -> FormatSpec {
     FormatSpec { precision, ..FormatSpec::ALTERNATE }
-}
-
-/// Returns `true` if the unit has a binary prefix.
-fn has_binary_prefix(unit: Unit) -> bool {
-    match unit {
-        Unit::Bit | Unit::B => false,
-        _ => unit.is_binary_multiples(),
-    }
 }
 
 /// Writes the number of a unit that a size is, and returns its length.

@@ -25,7 +25,6 @@ pub fn write_layout(e: &Expansion, places: u32, unit: Unit, spec: FormatSpec, ou
 #[inline(always)]
 pub(crate) fn layout_parts<'a>(whole: u128, fraction: Fraction<'a>, unit: Unit, spec: FormatSpec) -> TextParts<'a> {
     let number = decimal_len(whole) + fraction.len();
-    // Looked up late on purpose: earlier, LLVM emits a jump table instead of a load.
     let name = unit.as_str();
     let gap = match spec.sign {
         Sign::Unset => 1,

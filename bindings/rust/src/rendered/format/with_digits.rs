@@ -28,7 +28,6 @@ use crate::support::lanes::*;
 /// ```
 #[inline(always)]
 pub fn write_with_digits(size: u128, kind: Kind, between: [u8; 3], out: &mut [impl Place]) -> usize {
-    // The cast tells the compiler that it can divide in 64 bits.
     if size < 1 << 64 {
         put_with_digits(u128::from(size as u64), kind, between, out)
     } else {

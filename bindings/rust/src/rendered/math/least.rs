@@ -96,8 +96,7 @@ fn carry_of_half(digits: u64, unit_size: u128, carry: u128) -> u128 {
     }
 }
 
-/// Returns what `carry_of_half` does, for any unit, by two groups. Not inlined: a parser of a line would grow so large
-/// that Rattle's compiler would not inline it.
+/// Returns what `carry_of_half` does, for any unit, by two groups.
 #[inline(never)]
 fn carry_of_groups(digits: u64, unit_size: u128, carry: u128) -> u128 {
     let part = carry_of_group(digits % GROUP, unit_size, carry);
