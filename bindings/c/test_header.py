@@ -89,7 +89,7 @@ def constants():
 
 def macros():
     """Returns the macros that the header has to have, and their values."""
-    limit = int(only(r"^const SIZE_LIMIT: u128 = ([\d_]+);", "size", "byte_unit_base"))
+    limit = int(only(r"^pub const SIZE_LIMIT: u128 = ([\d_]+);", "size", "byte_unit_base"))
     version = int(only(r"^    ([\d_]+)$", "version"))
     major, minor, patch = version // 10**6, version // 1000 % 1000, version % 1000
     return {

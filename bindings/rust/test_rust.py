@@ -95,7 +95,7 @@ def test_code_by_hand_is_the_proved_code(cargo, rust_package, tmp_path):
     """Compares `support` with the proved code in whose place it is; `read_digits` with a function that is proved to
     return the same."""
     items = [item for item, where in by_hand.REPLACED.items() if where.startswith("support")]
-    write(f"{tmp_path}/src/proved.rs", proved([*items, "base/src/read/number.rt fn few_digits"]))
+    write(f"{tmp_path}/src/proved.rs", proved([*items, "base/src/read/digits.rt fn few_digits"]))
     write(f"{tmp_path}/src/main.rs", read("bindings/rust/checks/by_hand.rs"))
     manifest = read("bindings/rust/checks/moved.toml").replace("PACKAGE", rust_package)
     write(f"{tmp_path}/Cargo.toml", manifest.replace('"u128"', '"u128", "internal"'))

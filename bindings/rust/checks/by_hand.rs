@@ -1,6 +1,6 @@
 //! The code by hand in `support` beside the proved code, as the renderer writes it: over all inputs, or ten million.
 //! What is of Rattle's std, and has no source here, is beside plain code. Prints what differs, and how much.
-#![allow(unused_labels)] // Proofs name loops.
+#![allow(dead_code, unused_labels)] // A file has all its constants, and proofs name loops.
 
 use std::array::from_fn;
 use std::fmt::{self, Debug, Display, Formatter};

@@ -30,6 +30,7 @@ pub use Rattle.byte_unit_base.specs.Kinds
 pub use Rattle.byte_unit_base.specs.UnitLists
 pub use Rattle.byte_unit_base.specs.LeastOfKind
 pub use Rattle.byte_unit_base.specs.SizeOrNone
+pub use Rattle.byte_unit_base.specs.ParseSpec
 pub use Rattle.byte_unit_base.specs.Accepted
 pub use Rattle.byte_unit_base.specs.SizeReading
 pub use Rattle.byte_unit_base.specs.BinaryReading

@@ -13,10 +13,9 @@ use Rattle.byte_unit_base.specs.Spelling.{Flags, Spells, SpellsBinary, SpellsMul
 use Rattle.byte_unit_base.specs.SizeText.{space, trim_of, IsSizeText}
 use Rattle.byte_unit_base.specs.Fault.{Fault, IsSizeFault, letter_i}
 use Rattle.byte_unit_base.specs.Kinds.{flags_for}
-use Rattle.byte_unit_base.specs.Accepted.{as_written}
 use Rattle.byte_unit_base.specs.ReaderLaws.{Represents}
 use Rattle.byte_unit_base.specs.Parsed.{parsed_size_as, size_of_parsed}
-use Rattle.byte_unit_base.specs.BinaryReading.{binary_of}
+use Rattle.byte_unit_base.specs.ParseSpec.{parse_spec, binary_of}
 use Rattle.byte_unit_base.specs.BinaryLaws.{HasDecimalPrefix, IsWithI, BinaryReadingsAreThoseWithI, EachTextHasOneWithI}
 use Rattle.byte_unit_base.specs.declared.kind.Kind.{Kind}
 use Rattle.byte_unit_base.proofs.Scans.{one_answer}
@@ -130,25 +129,25 @@ same_answer flags text other (inr (none, e)) = subst (SameAnswer flags text) (sy
 -- the input gives the number of the binary unit that the other gives, or the same error, so both give the same size
 same_parsed : (kind : Kind) (ignore_case : Bool) (bytes other : List ℕ)
     → IsWithI (flags_for kind ignore_case) (trim_of bytes) (trim_of other)
-    → parsed_size_as binary_of kind ignore_case bytes ≡ parsed_size_as as_written kind ignore_case other
+    → parsed_size_as (parse_spec kind ignore_case true) bytes ≡ parsed_size_as (parse_spec kind ignore_case false) other
 unfolding parsed_size_as
 same_parsed kind ignore_case bytes other h =
     let flags = flags_for kind ignore_case in
     let of_bytes = parsed_numbers_are_represented flags bytes in
     let of_other = parsed_numbers_are_represented flags other in
     ⊎_elim
-    (λ m. ap (size_of_parsed binary_of kind) ((of_bytes.is_meaning m.0).1 m.1)
-    ∙ sym (ap (size_of_parsed as_written kind) ((of_other.is_meaning (m.0.0, binary_of m.0.1)).1 m.2)))
-    (λ f. ap (size_of_parsed binary_of kind) ((of_bytes.is_fault f.0).1 f.1)
-    ∙ sym (ap (size_of_parsed as_written kind) ((of_other.is_fault f.0).1 f.2)))
+    (λ m. ap (size_of_parsed (parse_spec kind ignore_case true)) ((of_bytes.is_meaning m.0).1 m.1)
+    ∙ sym (ap (size_of_parsed (parse_spec kind ignore_case false)) ((of_other.is_meaning (m.0.0, binary_of m.0.1)).1 m.2)))
+    (λ f. ap (size_of_parsed (parse_spec kind ignore_case true)) ((of_bytes.is_fault f.0).1 f.1)
+    ∙ sym (ap (size_of_parsed (parse_spec kind ignore_case false)) ((of_other.is_fault f.0).1 f.2)))
     (same_answer flags (trim_of bytes) (trim_of other) h)
 
 -- the binary reading of an input is the reading of the input with an `i` after its decimal prefix
 pub readings_with_i : BinaryReadingsAreThoseWithI
 readings_with_i kind ignore_case bytes other h result =
     let same = same_parsed kind ignore_case bytes other h in (
-      λ r. size_reading as_written kind ignore_case other result (r.computed ∙ same),
-      λ r. size_reading binary_of kind ignore_case bytes result (r.computed ∙ sym same),
+      λ r. size_reading (parse_spec kind ignore_case false) other result (r.computed ∙ same),
+      λ r. size_reading (parse_spec kind ignore_case true) bytes result (r.computed ∙ sym same),
     )
 
 -- an input, for which a text with an `i` is found

@@ -24,8 +24,8 @@ use Rattle.byte_unit_base.specs.Scan.{run}
 use Rattle.byte_unit_base.specs.SizeScan.{SizeScan, Beginning, Whole, Point, Fraction, is_digit, size_step, fixed_point}
 use Rattle.byte_unit_base.specs.SizeScan.{size_parser_state}
 use Rattle.byte_unit_base.specs.ParserEnds.{IsFirst, IsStopAt, IsStoppedBefore, EndsNumber, IsLeadingNumber, IsLimitAt}
-use Rattle.byte_unit_base.specs.declared.read.stop.NumberStop.TheVariants.{NoWhole, NoFraction, TooLong}
-use Rattle.byte_unit_base.specs.declared.read.stop.Reason.TheVariants.{InNumber}
+use Rattle.byte_unit_base.specs.declared.stop.NumberStop.TheVariants.{NoWhole, NoFraction, TooLong}
+use Rattle.byte_unit_base.specs.declared.stop.Reason.TheVariants.{InNumber}
 use Rattle.byte_unit_base.proofs.Lists.{dropped_first}
 use Rattle.byte_unit_base.proofs.Scans.{run_through, reached}
 use Rattle.byte_unit_base.proofs.SizeReached.{fraction_number}
@@ -65,16 +65,16 @@ no_fraction flags w (c ∷ cs) none = (rw none refl, refl)
 
 -- if a digit follows for which the state machine has no step, with the error of a number that is too long, the parser
 -- stops there
-one_too_many : (flags : Flags) (state : SizeScan) (bytes : List ℕ) (place : ℕ) → place < length bytes
-    → IsAscii (take place bytes) → run size_step Beginning (take place bytes) ≡ Some state
-    → is_digit (get_or bytes place 0) ≡ true → size_step state (get_or bytes place 0) ≡ None
-    → too_long ≡ fault_at current flags (size_parser_state state) (get_or bytes place 0)
-    → IsStopAt flags bytes place (InNumber TooLong)
-one_too_many flags state bytes place inside ascii run_is digit none fault_is =
-    let c = get_or bytes place 0 in
+one_too_many : (flags : Flags) (state : SizeScan) (bytes : List ℕ) (index : ℕ) → index < length bytes
+    → IsAscii (take index bytes) → run size_step Beginning (take index bytes) ≡ Some state
+    → is_digit (get_or bytes index 0) ≡ true → size_step state (get_or bytes index 0) ≡ None
+    → too_long ≡ fault_at current flags (size_parser_state state) (get_or bytes index 0)
+    → IsStopAt flags bytes index (InNumber TooLong)
+one_too_many flags state bytes index inside ascii run_is digit none fault_is =
+    let c = get_or bytes index 0 in
     let small : c < 128 = grind (arith, nat_tests, digit) in
-    let next = ap chars (drop_more bytes place 0 inside)
-    ∙ text_from (c ∷ drop (place + 1) bytes) 1 (IsAscii-cons c [] small IsAscii-nil) in
+    let next = ap chars (drop_more bytes index 0 inside)
+    ∙ text_from (c ∷ drop (index + 1) bytes) 1 (IsAscii-cons c [] small IsAscii-nil) in
     let before = subst (IsStoppedBefore flags state (InNumber TooLong)) (sym next) (none, fault_is) in
     record {
       within = omega (arith, inside);
@@ -254,14 +254,14 @@ module _ (bytes : List ℕ) (end whole : ℕ) (run_is : end ≡ 0 + digits_len (
           ∙ ap (take count) (take-append-drop places rest) in
           let first = subst (AllDigits 10) kept (AllDigits-take count (take places rest) digits_are) in
           let count_within : count ≤ length rest = omega (arith, many, places_within) in
-          let place = end + 1 + count in
-          let c = get_or bytes place 0 in
+          let index = end + 1 + count in
+          let c = get_or bytes index 0 in
           let here : get_or (take places rest) count 0 ≡ c =
           get_or-take places rest count 0 many ∙ get_or-drop (end + 1) bytes count 0 in
           let digit : is_digit c ≡ true = ap is_digit (sym here) ∙ digit_in (take places rest) count digits_are
           (omega (arith, many, length-take-le places rest places_within)) in
           let full = length-take-le count rest count_within in
-          one_too_many flags (Fraction whole (digits_value 10 (take count rest)) (length (take count rest))) bytes place
+          one_too_many flags (Fraction whole (digits_value 10 (take count rest)) (length (take count rest))) bytes index
           (omega (arith, stop_is, stop_within, many))
           (digits_ascii count count_within first (omega arith) (omega arith))
           (run_digits count count_within first (omega arith) (omega arith)) digit
@@ -280,32 +280,32 @@ module _ (bytes : List ℕ) (end whole : ℕ) (run_is : end ≡ 0 + digits_len (
           (none_after rest places places_are (omega (arith, more, length-drop {A = ℕ} (end + 1) bytes)))))
 
 -- if the whole part reaches the limit, the parser stops at the digit with which it does
-pub stops_in_whole : (bytes : List ℕ) (end place : ℕ) → end ≡ 0 + digits_len (drop 0 bytes) → end ≤ length bytes
-    → IsLimitAt (take end bytes) place → (flags : Flags) → IsStopAt flags bytes place (InNumber TooLong)
+pub stops_in_whole : (bytes : List ℕ) (end index : ℕ) → end ≡ 0 + digits_len (drop 0 bytes) → end ≤ length bytes
+    → IsLimitAt (take end bytes) index → (flags : Flags) → IsStopAt flags bytes index (InNumber TooLong)
 unfolding size_step
-stops_in_whole bytes end place run_is within limit flags =
+stops_in_whole bytes end index run_is within limit flags =
     let ds = take end bytes in
     let digits = digits_of_run bytes end run_is in
     let len = length-take-le end bytes within in
-    let value = digits_value 10 (take place ds) in
-    let c = get_or bytes place 0 in
-    let here : get_or ds place 0 ≡ c = get_or-take end bytes place 0 (omega (arith, limit.inside, len)) in
-    let digit : is_digit c ≡ true = ap is_digit (sym here) ∙ digit_in ds place digits limit.inside in
+    let value = digits_value 10 (take index ds) in
+    let c = get_or bytes index 0 in
+    let here : get_or ds index 0 ≡ c = get_or-take end bytes index 0 (omega (arith, limit.inside, len)) in
+    let digit : is_digit c ≡ true = ap is_digit (sym here) ∙ digit_in ds index digits limit.inside in
     let next : whole_limit ≤ value * 10 + digit_value c =
-    omega (arith, limit.above, digits_value_more 10 ds place limit.inside, ap digit_value here) in
-    let some : place ≡ 0 → ⊥ = λ none.
+    omega (arith, limit.above, digits_value_more 10 ds index limit.inside, ap digit_value here) in
+    let some : index ≡ 0 → ⊥ = λ none.
     let no_value : value ≡ 0 = ap (λ n. digits_value 10 (take n ds)) none in
     grind (arith, nat_tests, no_value, next, digit) in
-    let kept : take place ds ≡ take place bytes =
-    sym (take-append-le place ds (drop end bytes) (omega (arith, limit.inside)))
-    ∙ ap (take place) (take-append-drop end bytes) in
-    let first = subst (AllDigits 10) kept (AllDigits-take place ds digits) in
-    let place_within : place ≤ length bytes = omega (arith, limit.inside, len, within) in
-    let whole : IsWholePart current (take place bytes) value = (
-      (omega (arith, length-take-le place bytes place_within, some), first),
+    let kept : take index ds ≡ take index bytes =
+    sym (take-append-le index ds (drop end bytes) (omega (arith, limit.inside)))
+    ∙ ap (take index) (take-append-drop end bytes) in
+    let first = subst (AllDigits 10) kept (AllDigits-take index ds digits) in
+    let place_within : index ≤ length bytes = omega (arith, limit.inside, len, within) in
+    let whole : IsWholePart current (take index bytes) value = (
+      (omega (arith, length-take-le index bytes place_within, some), first),
       ap (digits_value 10) kept,
       limit.below,
     ) in
-    one_too_many flags (Whole value) bytes place (omega (arith, limit.inside, len, within))
-    (IsAscii-from_digits (take place bytes) first) (run_whole (take place bytes) value whole) digit
+    one_too_many flags (Whole value) bytes index (omega (arith, limit.inside, len, within))
+    (IsAscii-from_digits (take index bytes) first) (run_whole (take index bytes) value whole) digit
     (grind (arith, nat_tests, digit, next)) (rw digit refl)

@@ -1,17 +1,19 @@
 -- The laws of the parsers as functions: for each input they give its meaning or its error.
 --
 -- Here `found` is a number, `found.0`, and its unit, `found.1`.
-use Rattle.std.proofs.Common.{◌≡◌, ℕ, Bool, List, Result, Ok, Err, refl, ap, sym, ◌∙◌, arith, inl, inr, ⊎_elim}
+use Rattle.std.proofs.Common.{◌≡◌, ℕ, false, List, Result, Ok, Err, refl, ap, sym, ◌∙◌, arith, inl, inr, ⊎_elim}
 use Rattle.std.proofs.lemmas.Bool.{cond_both, cond-true, cond-false, lt-ltb, le-ltb}
 use Rattle.std.specs.Prelude.{nat_lt}
 use Rattle.std.specs.Result.{result_map_both}
 use Rattle.byte_unit_math.specs.Bounds.{size_limit}
 use Rattle.byte_unit_base.specs.Shape.{Shape}
+use Rattle.byte_unit_base.specs.Spelling.{Flags}
 use Rattle.byte_unit_base.specs.Version.{current}
 use Rattle.byte_unit_base.specs.SizeText.{trim_of}
 use Rattle.byte_unit_base.specs.Fault.{Fault, exceeded, IsSizeFault}
 use Rattle.byte_unit_base.specs.Kinds.{flags_for}
-use Rattle.byte_unit_base.specs.Accepted.{as_written, IsReadAs, IsAcceptedAs, IsRejectedAs}
+use Rattle.byte_unit_base.specs.ParseSpec.{ParseSpec, parse_spec, unit_meant}
+use Rattle.byte_unit_base.specs.Accepted.{IsReadAs, IsAcceptedAs, IsRejectedAs}
 use Rattle.byte_unit_base.specs.Errors.{size_fault}
 use Rattle.byte_unit_base.specs.SizeReading.{IsReadingAs}
 use Rattle.byte_unit_base.specs.declared.errors.ParseError.{ParseError}
@@ -20,7 +22,6 @@ use Rattle.byte_unit_base.specs.Parsed.{parsed_unit, parsed_number, parsed_size_
 use Rattle.byte_unit_base.specs.Parsed.{size_within_limit}
 use Rattle.byte_unit_base.specs.ParsedLaws.{GivesAnswer, ParsedUnitsAreSpelled, ParsedNumbersAreRepresented}
 use Rattle.byte_unit_base.specs.ParsedLaws.{ParsedSizesAreAccepted}
-use Rattle.byte_unit_base.specs.declared.kind.Kind.{Kind}
 use Rattle.byte_unit_base.proofs.Scans.{IsAnswer, reads_meaning_or_fault, reads_meaning, reads_fault, reads}
 use Rattle.byte_unit_base.proofs.Scans.{gives_answer, one_of_given}
 use Rattle.byte_unit_base.proofs.Computed.{rounded_up_is_least}
@@ -42,55 +43,58 @@ parsed_numbers_are_represented flags bytes = reads (size_scan_is flags) (trim_of
 
 -- the size, by the number and the unit
 
--- an input, `bytes`, in one reading: `meant` is the unit that it takes for the unit that is written
-module _ (meant : Shape → Shape) (kind : Kind) (ignore_case : Bool) (bytes : List ℕ) where
+-- an input, `bytes`, in one reading
+module _ (spec : ParseSpec) (bytes : List ℕ) where
+  -- how it reads a unit
+  abbrev flags : Flags
+  flags = flags_for spec.kind spec.ignore_case
+
   -- the result is a size that is accepted, or the error of an input that is rejected
   abbrev Answers : Result ℕ Fault → Type 0
-  Answers = IsAnswer (IsAcceptedAs meant current kind ignore_case bytes)
-      (IsRejectedAs meant current kind ignore_case bytes)
+  Answers = IsAnswer (IsAcceptedAs spec current bytes)
+      (IsRejectedAs spec current bytes)
 
   -- a number and unit give their size, rounded up, or the error if it is too large, and an error stays the error
   by_number : (r : Result (ℕ × Shape) Fault)
-      → IsAnswer (Represents (flags_for kind ignore_case) (trim_of bytes))
-      (IsSizeFault current (flags_for kind ignore_case) (trim_of bytes)) r
-      → Answers (size_of_parsed meant kind r)
+      → IsAnswer (Represents flags (trim_of bytes))
+      (IsSizeFault current flags (trim_of bytes)) r
+      → Answers (size_of_parsed spec r)
   by_number (Ok found) h =
-      let least = rounded_up_is_least kind found.0 (meant found.1) in
-      let is_read : IsReadAs meant current kind ignore_case bytes found.0 (rounded_up kind found.0 (meant found.1)) =
+      let least = rounded_up_is_least spec.kind found.0 (unit_meant spec found.1) in
+      let is_read : IsReadAs spec current bytes found.0 (rounded_up spec.kind found.0 (unit_meant spec found.1)) =
       record { unit = found.1; is_size = h; is_least = least } in
-      cond_both (nat_lt (rounded_up kind found.0 (meant found.1)) size_limit) _ _ Answers
+      cond_both (nat_lt (rounded_up spec.kind found.0 (unit_meant spec found.1)) size_limit) _ _ Answers
       (λ e. record { number = found.0; is_read = is_read; below = grind (arith, e) })
       (λ e. inl (found.0, refl, record { size = _; is_read = is_read; above = grind (arith, e) }))
   by_number (Err fault) h = inr h
 
   -- of an input that is this number, and this size when rounded up, the parser as a function gives the size, or the
   -- error if it is too large
-  parsed_read : (number size : ℕ) → IsReadAs meant current kind ignore_case bytes number size
-      → parsed_size_as meant kind ignore_case bytes ≡ size_within_limit number size
+  parsed_read : (number size : ℕ) → IsReadAs spec current bytes number size
+      → parsed_size_as spec bytes ≡ size_within_limit number size
   unfolding parsed_size_as parsed_number
   parsed_read number size h =
-      let least = rounded_up_is_least kind number (meant h.unit) in
-      ap (size_of_parsed meant kind)
-      (reads_meaning (size_scan_is (flags_for kind ignore_case)) (trim_of bytes) (number, h.unit) h.is_size)
-      ∙ ap (size_within_limit number) (least_is_unique kind number (meant h.unit) _ size least h.is_least)
+      let least = rounded_up_is_least spec.kind number (unit_meant spec h.unit) in
+      ap (size_of_parsed spec)
+      (reads_meaning (size_scan_is flags) (trim_of bytes) (number, h.unit) h.is_size)
+      ∙ ap (size_within_limit number) (least_is_unique spec.kind number (unit_meant spec h.unit) _ size least h.is_least)
 
   -- the parser as a function gives exactly the size that is accepted, or exactly the error
-  pub size_given : GivesAnswer ℕ (IsAcceptedAs meant current kind ignore_case bytes)
-      (IsRejectedAs meant current kind ignore_case bytes) (parsed_size_as meant kind ignore_case bytes)
+  pub size_given : GivesAnswer ℕ (IsAcceptedAs spec current bytes)
+      (IsRejectedAs spec current bytes) (parsed_size_as spec bytes)
   unfolding parsed_size_as parsed_number
   size_given =
-      let flags = flags_for kind ignore_case in
       gives_answer (by_number _ (reads_meaning_or_fault (size_scan_is flags) (trim_of bytes)))
       (λ n a. parsed_read a.number n a.is_read ∙ cond-true _ _ _ (lt-ltb n size_limit a.below))
       (λ fault. ⊎_elim
       (λ e. parsed_read e.0 e.2.size e.2.is_read
       ∙ (cond-false _ _ _ (le-ltb e.2.size size_limit e.2.above) ∙ ap Err (sym e.1)))
-      (λ f. ap (size_of_parsed meant kind) (reads_fault (size_scan_is flags) (trim_of bytes) fault f)))
+      (λ f. ap (size_of_parsed spec) (reads_fault (size_scan_is flags) (trim_of bytes) fault f)))
 
   -- a parser that returns what the parser as a function gives returns exactly the size that is accepted, or the error
   pub size_reading : (r : Result ℕ ParseError)
-      → result_map_both (λ n. n) size_fault r ≡ parsed_size_as meant kind ignore_case bytes
-      → IsReadingAs meant kind ignore_case bytes r
+      → result_map_both (λ n. n) size_fault r ≡ parsed_size_as spec bytes
+      → IsReadingAs spec bytes r
   size_reading (Ok n) e =
       let one = one_of_given size_given in
       let accepted = (size_given.is_meaning n).0 (sym e) in
@@ -114,7 +118,7 @@ module _ (meant : Shape → Shape) (kind : Kind) (ignore_case : Bool) (bytes : L
 
 -- the parser as a function gives exactly the size that is accepted, or exactly the error
 pub parsed_sizes_are_accepted : ParsedSizesAreAccepted
-parsed_sizes_are_accepted kind ignore_case bytes = size_given as_written kind ignore_case bytes
+parsed_sizes_are_accepted kind ignore_case bytes = size_given (parse_spec kind ignore_case false) bytes
 
 -- what the parsed unit, number and size of a string are
 pub ruleset parsed_texts = (parsed_units_are_spelled, parsed_numbers_are_represented, parsed_sizes_are_accepted)

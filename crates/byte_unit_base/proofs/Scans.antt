@@ -88,7 +88,7 @@ module _ {S Meaning : Type 0} (scan : Scan S Meaning) where
 
   -- if the next character has no step, the result is the error at it, by the parser state
   pub read_none : (s : S) (c : ℕ) (cs : List ℕ) → scan.step s c ≡ None
-      → read scan s (c ∷ cs) ≡ Err (fault_at current scan.flags (scan.place s) c)
+      → read scan s (c ∷ cs) ≡ Err (fault_at current scan.flags (scan.parser_state s) c)
   read_none s c cs e = rw (e, read) refl
 
   -- the result for two texts is that for the second, from the state after the first
@@ -138,7 +138,7 @@ NoLongerFront IsViable front rest =
 
 -- after the text the state machine has a state, which has this parser state
 abbrev pub IsScanned : {S Meaning : Type 0} → Scan S Meaning → ParserState → List ℕ → Type 0
-IsScanned scan place = RunsTo scan.step (λ s. scan.place s ≡ place) scan.start
+IsScanned scan parser_state = RunsTo scan.step (λ s. scan.parser_state s ≡ parser_state) scan.start
 
 -- the state machine accepts exactly the inputs that have a meaning, and its states are exactly those after the viable
 -- prefixes. `Reached` is what is known of the text that led to a state. All the laws of the parsers rest on it
@@ -149,11 +149,12 @@ pub record IsScanOf {S Meaning : Type 0} (scan : Scan S Meaning) (Reached : S �
   pub starts : Reached scan.start []
   pub steps : (s t : S) (c : ℕ) (text : List ℕ) → scan.step s c ≡ Some t → Reached s text → Reached t (text ++ c ∷ [])
   -- the text that led to a state is a viable prefix with its parser state, and there is a state after each such prefix
-  pub front : (s : S) (text : List ℕ) → Reached s text → IsViable (scan.place s) text
-  pub front_read : (place : ParserState) (text : List ℕ) → IsViable place text → IsScanned scan place text
+  pub front : (s : S) (text : List ℕ) → Reached s text → IsViable (scan.parser_state s) text
+  pub front_read : (parser_state : ParserState) (text : List ℕ) → IsViable parser_state text
+      → IsScanned scan parser_state text
   -- an input that ends in a state has the error of its parser state, or a meaning
   pub ends : (s : S) (text : List ℕ) → Reached s text
-      → EndsIn (Means text) (fault_at_end (scan.place s)) (scan.at_end s)
+      → EndsIn (Means text) (fault_at_end (scan.parser_state s)) (scan.at_end s)
   -- the result for an input that has a meaning is this meaning
   pub meaning_read : (text : List ℕ) (meaning : Meaning) → Means text meaning
       → RunsTo scan.step (λ s. scan.at_end s ≡ Ok meaning) scan.start text
@@ -187,10 +188,10 @@ module _ {S Meaning : Type 0} {scan : Scan S Meaning} {Reached : S → List ℕ 
   -- the error where the state machine stops is the error of the input
   abbrev pub first_fault : (s : S) (text front rest : List ℕ) (fault : Fault) → text ≡ front ++ rest
       → run scan.step scan.start front ≡ Some s
-      → CannotStep scan.step s rest → IsFaultAfter current scan.flags (scan.place s) rest fault
+      → CannotStep scan.step s rest → IsFaultAfter current scan.flags (scan.parser_state s) rest fault
       → IsFirstFault IsViable current scan.flags text fault
   first_fault s text front rest fault t e stops h = record {
-    place = scan.place s;
+    parser_state = scan.parser_state s;
     front = front;
     rest = rest;
     longest = record {
@@ -203,7 +204,7 @@ module _ {S Meaning : Type 0} {scan : Scan S Meaning} {Reached : S → List ℕ 
 
   -- the result at the end of an input is a meaning of it, or its error, by the error of the parser state
   answer_at_end : (s : S) (text front : List ℕ) → text ≡ front ++ [] → run scan.step scan.start front ≡ Some s
-      → (o : Option Fault) → fault_at_end (scan.place s) ≡ o → EndsIn (Means text) o (scan.at_end s)
+      → (o : Option Fault) → fault_at_end (scan.parser_state s) ≡ o → EndsIn (Means text) o (scan.at_end s)
       → Answers text (scan.at_end s)
   answer_at_end s text front t e None at ends = subst (Answers text) (sym ends.2) ends.1
   answer_at_end s text front t e (Some fault) at ends =
@@ -214,7 +215,7 @@ module _ {S Meaning : Type 0} {scan : Scan S Meaning} {Reached : S → List ℕ 
       → Answers text (read scan s rest)
   answer_from s text front [] t e =
       let whole : front ≡ text = sym (t ∙ append-nil front) in
-      answer_at_end s text front t e (fault_at_end (scan.place s)) refl
+      answer_at_end s text front t e (fault_at_end (scan.parser_state s)) refl
       (is.ends s text (subst (Reached s) whole (reached front s e)))
   answer_from s text front (c ∷ cs) t e =
       ⊎_elim
@@ -238,7 +239,7 @@ module _ {S Meaning : Type 0} {scan : Scan S Meaning} {Reached : S → List ℕ 
 
   -- after the longest viable prefix, the result for the rest is the error of its parser state
   fault_of_rest : (s : S) (front rest : List ℕ) (fault : Fault) → Reached s front → NoLongerFront IsViable front rest
-      → IsFaultAfter current scan.flags (scan.place s) rest fault → read scan s rest ≡ Err fault
+      → IsFaultAfter current scan.flags (scan.parser_state s) rest fault → read scan s rest ≡ Err fault
   fault_of_rest s front [] fault r longest h =
       subst (λ o. EndsIn (Means front) o (scan.at_end s)) h (is.ends s front r)
   fault_of_rest s front (c ∷ cs) fault r longest h =
@@ -252,7 +253,7 @@ module _ {S Meaning : Type 0} {scan : Scan S Meaning} {Reached : S → List ℕ 
   pub reads_fault : (text : List ℕ) (fault : Fault) → IsFirstFault IsViable current scan.flags text fault
       → read scan scan.start text ≡ Err fault
   reads_fault text fault h =
-      let r = is.front_read h.place h.front h.longest.is_front in
+      let r = is.front_read h.parser_state h.front h.longest.is_front in
       let rest = fault_of_rest r.state h.front h.rest fault (reached h.front r.state r.run_is) h.longest.longest
       (rw (← r.holds) at h.fault_is) in
       ap (read scan scan.start) h.longest.text_is
@@ -268,7 +269,8 @@ module _ {S Meaning : Type 0} {scan : Scan S Meaning} {Reached : S → List ℕ 
   one_answer text = one_of_given (reads text)
 
   -- the viable prefixes are exactly the beginnings of the inputs that have a meaning
-  pub fronts_are_beginnings : (text : List ℕ) → ((place : ParserState) × IsViable place text) ↔ CanBecome Meaning Means text
+  pub fronts_are_beginnings : (text : List ℕ)
+      → ((parser_state : ParserState) × IsViable parser_state text) ↔ CanBecome Meaning Means text
   fronts_are_beginnings text = (
     λ f.
         let r = is.front_read f.0 text f.1 in
@@ -278,5 +280,5 @@ module _ {S Meaning : Type 0} {scan : Scan S Meaning} {Reached : S → List ℕ 
     λ b.
         let r = is.meaning_read (text ++ b.0) b.1 b.2 in
         let t = run_before scan.step scan.start r.state text b.0 r.run_is in
-        (scan.place t.0, is.front t.0 text (reached text t.0 t.1)),
+        (scan.parser_state t.0, is.front t.0 text (reached text t.0 t.1)),
   )

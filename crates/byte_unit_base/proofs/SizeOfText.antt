@@ -1,11 +1,9 @@
--- What the parser of a size returns, by the result of parsing its number and unit, in each reading: `meant` is the unit
--- that it takes for the unit that is written.
+-- What the parser of a size returns, by the result of parsing its number and unit, in each reading.
 --
 -- Here `found` is a number, `found.0`, and its unit, `found.1`. Of a size, `size.0` is that it is this number of the
 -- unit that is meant, rounded up, and `size.1` that it is below the limit.
-use Rattle.std.proofs.Common.{ℕ, Bool, List, Some, None, Ok, Err, sym, refl, inl, inr, IsUtf8}
+use Rattle.std.proofs.Common.{ℕ, List, Some, None, Ok, Err, sym, refl, inl, inr, IsUtf8}
 use Rattle.std.proofs.lemmas.Str.{IsUtf8-from_ascii}
-use Rattle.byte_unit_base.specs.Shape.{Shape}
 use Rattle.byte_unit_base.specs.Spelling.{Flags}
 use Rattle.byte_unit_base.specs.Version.{current}
 use Rattle.byte_unit_base.specs.Units.{shape_of}
@@ -13,10 +11,10 @@ use Rattle.byte_unit_base.specs.declared.unit.Unit.{Unit as UnitName}
 use Rattle.byte_unit_base.specs.declared.errors.ParseError.{ParseError}
 use Rattle.byte_unit_base.specs.declared.errors.ParseError.TheVariants.{Value}
 use Rattle.byte_unit_base.specs.declared.errors.ValueParseError.TheVariants.{ExceededBounds}
-use Rattle.byte_unit_base.specs.declared.kind.Kind.{Kind}
 use Rattle.byte_unit_base.specs.LeastOfKind.{IsLeastOf}
 use Rattle.byte_unit_base.specs.SizeOrNone.{IsSizeOrNone}
 use Rattle.byte_unit_base.specs.Kinds.{flags_for}
+use Rattle.byte_unit_base.specs.ParseSpec.{ParseSpec, unit_meant}
 use Rattle.byte_unit_base.specs.Readings.{IsNumberReading}
 use Rattle.byte_unit_base.specs.SizeReading.{IsReadingAs}
 use Rattle.byte_unit_base.specs.SizeText.{IsSizeText}
@@ -31,19 +29,19 @@ use Rattle.byte_unit_base.proofs.SizeReads.{number_reading}
 use Rattle.byte_unit_base.proofs.ParsedTexts.{size_given, size_reading}
 
 -- an input, `bytes`, in one reading
-module _ (meant : Shape → Shape) (kind : Kind) (ignore_case : Bool) (bytes : List ℕ) where
+module _ (spec : ParseSpec) (bytes : List ℕ) where
   -- what the parser as a function gives
-  abbrev given : GivesAnswer ℕ (IsAcceptedAs meant current kind ignore_case bytes)
-      (IsRejectedAs meant current kind ignore_case bytes) (parsed_size_as meant kind ignore_case bytes)
-  given = size_given meant kind ignore_case bytes
+  abbrev given : GivesAnswer ℕ (IsAcceptedAs spec current bytes)
+      (IsRejectedAs spec current bytes) (parsed_size_as spec bytes)
+  given = size_given spec bytes
 
   -- if the size of the number and unit is below the limit, it is the result
   pub reading_of_size : (found : ℕ × UnitName) (n : ℕ)
-      → IsNumberReading (flags_for kind ignore_case) bytes (Ok found)
-      → IsSizeOrNone (IsLeastOf kind found.0 (meant (shape_of found.1))) (Some n)
-      → IsReadingAs meant kind ignore_case bytes (Ok n)
+      → IsNumberReading (flags_for spec.kind spec.ignore_case) bytes (Ok found)
+      → IsSizeOrNone (IsLeastOf spec.kind found.0 (unit_meant spec (shape_of found.1))) (Some n)
+      → IsReadingAs spec bytes (Ok n)
   reading_of_size found n reading size =
-      size_reading meant kind ignore_case bytes (Ok n) (sym ((given.is_meaning n).1 record {
+      size_reading spec bytes (Ok n) (sym ((given.is_meaning n).1 record {
         number = found.0;
         is_read = record { unit = shape_of found.1; is_size = reading.found; is_least = size.0 };
         below = size.1;
@@ -51,26 +49,26 @@ module _ (meant : Shape → Shape) (kind : Kind) (ignore_case : Bool) (bytes : L
 
   -- if the size of the number and unit reaches the limit, the result is the error with the number
   pub reading_of_excess : (found : ℕ × UnitName)
-      → IsNumberReading (flags_for kind ignore_case) bytes (Ok found)
-      → IsSizeOrNone (IsLeastOf kind found.0 (meant (shape_of found.1))) None
-      → IsReadingAs meant kind ignore_case bytes (Err (Value (ExceededBounds found.0)))
+      → IsNumberReading (flags_for spec.kind spec.ignore_case) bytes (Ok found)
+      → IsSizeOrNone (IsLeastOf spec.kind found.0 (unit_meant spec (shape_of found.1))) None
+      → IsReadingAs spec bytes (Err (Value (ExceededBounds found.0)))
   reading_of_excess found reading none =
-      let least = rounded_up_is_least kind found.0 (meant (shape_of found.1)) in
-      size_reading meant kind ignore_case bytes (Err (Value (ExceededBounds found.0)))
+      let least = rounded_up_is_least spec.kind found.0 (unit_meant spec (shape_of found.1)) in
+      size_reading spec bytes (Err (Value (ExceededBounds found.0)))
       (sym ((given.is_fault (exceeded found.0)).1 (inl (
         found.0,
         refl,
         record {
-          size = rounded_up kind found.0 (meant (shape_of found.1));
+          size = rounded_up spec.kind found.0 (unit_meant spec (shape_of found.1));
           is_read = record { unit = shape_of found.1; is_size = reading.found; is_least = least };
           above = none _ least;
         },
       ))))
 
   -- the result if the input is not a number and a unit: its error
-  pub reading_of_fault : (error : ParseError) → IsNumberReading (flags_for kind ignore_case) bytes (Err error)
-      → IsReadingAs meant kind ignore_case bytes (Err error)
-  reading_of_fault error reading = size_reading meant kind ignore_case bytes (Err error)
+  pub reading_of_fault : (error : ParseError) → IsNumberReading (flags_for spec.kind spec.ignore_case) bytes (Err error)
+      → IsReadingAs spec bytes (Err error)
+  reading_of_fault error reading = size_reading spec bytes (Err error)
       (sym ((given.is_fault (size_fault error)).1 (inr reading.fault)))
 
 -- bytes that are a number and a unit are UTF-8, and the same number and unit when trimmed

@@ -1,36 +1,34 @@
--- Each input is accepted as one size, or rejected with one error, in each reading: `meant` is the unit that it takes
--- for the unit that is written.
+-- Each input is accepted as one size, or rejected with one error, in each reading.
 --
 -- Of a size `e` that is too large, `e.0` is the number, and the last part that its size is too large.
-use Rattle.std.proofs.Common.{ℕ, Bool, List, inl, inr, ⊎_elim, refl}
-use Rattle.byte_unit_base.specs.Shape.{Shape}
+use Rattle.std.proofs.Common.{ℕ, List, inl, inr, ⊎_elim, refl}
 use Rattle.byte_unit_base.specs.Version.{current}
 use Rattle.byte_unit_base.specs.Fault.{exceeded}
 use Rattle.byte_unit_base.specs.Kinds.{flags_for}
+use Rattle.byte_unit_base.specs.ParseSpec.{ParseSpec}
 use Rattle.byte_unit_base.specs.Accepted.{IsAcceptedAs, ExceedsAs, HasFault, IsRejectedAs}
 use Rattle.byte_unit_base.specs.SizeLaws.{IsOneOfThree}
 use Rattle.byte_unit_base.specs.ReaderLaws.{IsOneAnswer}
-use Rattle.byte_unit_base.specs.declared.kind.Kind.{Kind}
 use Rattle.byte_unit_base.proofs.Scans.{one_of_given}
 use Rattle.byte_unit_base.proofs.SizeReads.{no_bounds_after}
 use Rattle.byte_unit_base.proofs.ParsedTexts.{size_given}
 
 -- an input, `text`, in one reading
-module _ (meant : Shape → Shape) (kind : Kind) (ignore_case : Bool) (text : List ℕ) where
+module _ (spec : ParseSpec) (text : List ℕ) where
   -- an input is accepted as one size, or rejected with one error
-  pub accepted_or_refused : IsOneAnswer ℕ (IsAcceptedAs meant current kind ignore_case text)
-      (IsRejectedAs meant current kind ignore_case text)
-  accepted_or_refused = one_of_given (size_given meant kind ignore_case text)
+  pub accepted_or_refused : IsOneAnswer ℕ (IsAcceptedAs spec current text)
+      (IsRejectedAs spec current text)
+  accepted_or_refused = one_of_given (size_given spec text)
 
   -- an input whose size is too large is rejected
-  excess : (number : ℕ) → ExceedsAs meant current kind ignore_case text number
-      → IsRejectedAs meant current kind ignore_case text (exceeded number)
+  excess : (number : ℕ) → ExceedsAs spec current text number
+      → IsRejectedAs spec current text (exceeded number)
   excess number e = inl (number, refl, e)
 
   -- an input is accepted as one size, or its size is too large, or it is not in the grammar and has one error
-  pub one_of_three : IsOneOfThree (IsAcceptedAs meant current kind ignore_case text)
-      (ExceedsAs meant current kind ignore_case text)
-      (HasFault kind ignore_case text)
+  pub one_of_three : IsOneOfThree (IsAcceptedAs spec current text)
+      (ExceedsAs spec current text)
+      (HasFault spec.kind spec.ignore_case text)
   one_of_three =
       let one = accepted_or_refused in
       record {
@@ -42,6 +40,6 @@ module _ (meant : Shape → Shape) (kind : Kind) (ignore_case : Bool) (text : Li
         no_excess = λ n number a e. one.not_both n (exceeded number) a (excess number e);
         no_fault = λ n fault a f. one.not_both n fault a (inr f);
         no_fault_of_excess = λ number fault e f.
-            no_bounds_after (flags_for kind ignore_case) f.rest f.place fault number f.fault_is
+            no_bounds_after (flags_for spec.kind spec.ignore_case) f.rest f.parser_state fault number f.fault_is
             (one.one_fault fault (exceeded number) (inr f) (excess number e));
       }

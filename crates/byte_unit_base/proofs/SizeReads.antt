@@ -38,9 +38,9 @@ use Rattle.byte_unit_base.proofs.SizeRuns.{size_text_runs, size_front_runs}
 -- the text that led to a state is a viable prefix
 
 -- a number and a viable prefix of a unit are a viable prefix of both
-front_in_unit : (n : ℕ) (s : UnitScan) (place : ParserState) (text : List ℕ) (r : UnitReached n s text)
-    → IsViableUnitPrefix current place r.unit_part → IsNumberAndUnitPrefix current place text
-front_in_unit n s place text r h = record {
+front_in_unit : (n : ℕ) (s : UnitScan) (parser_state : ParserState) (text : List ℕ) (r : UnitReached n s text)
+    → IsViableUnitPrefix current parser_state r.unit_part → IsNumberAndUnitPrefix current parser_state text
+front_in_unit n s parser_state text r h = record {
   number_part = r.number_part;
   number = n;
   spaces = r.spaces;
@@ -149,8 +149,8 @@ size_scan_is flags = record {
 }
 
 -- no parser state gives the error of a size that is too large
-pub no_bounds_after : (flags : Flags) (rest : List ℕ) (place : ParserState) (fault : Fault) (n : ℕ)
-    → IsFaultAfter current flags place rest fault → fault ≢ exceeded n
+pub no_bounds_after : (flags : Flags) (rest : List ℕ) (parser_state : ParserState) (fault : Fault) (n : ℕ)
+    → IsFaultAfter current flags parser_state rest fault → fault ≢ exceeded n
 no_bounds_after flags [] beginning fault n h = λ e. grind (arith, h, e)
 no_bounds_after flags (c ∷ cs) in_whole fault n h = λ e. grind (arith, h, e)
 no_bounds_after flags _ _ fault n h = λ e. grind (arith, h, e)
@@ -182,7 +182,7 @@ number_reading flags bytes (Err error) h = record {
   reads = λ n unit k.
       (one_answer (size_scan_is flags) (trim_of bytes)).not_both (n, unit) (size_fault error) k h;
   fault = h;
-  no_bounds = λ n. no_bounds_after flags h.rest h.place (size_fault error) n h.fault_is;
+  no_bounds = λ n. no_bounds_after flags h.rest h.parser_state (size_fault error) n h.fault_is;
   computed = ap (result_map_both number_and_unit_of_crate (λ fault. fault))
       (sym (reads_fault (size_scan_is flags) (trim_of bytes) (size_fault error) h));
 }

@@ -13,7 +13,7 @@ use Rattle.byte_unit_base.specs.SizeScan.{SizeScan, Whole, Fraction, Gap, is_dig
 use Rattle.byte_unit_base.specs.SizeScan.{after_number}
 use Rattle.byte_unit_base.specs.ParserEnds.{IsFirst, EndsNumber, IsStopAt}
 use Rattle.byte_unit_base.specs.Spelling.{Flags}
-use Rattle.byte_unit_base.specs.declared.read.stop.Reason.{Reason}
+use Rattle.byte_unit_base.specs.declared.stop.Reason.{Reason}
 use Rattle.byte_unit_base.proofs.SizeRuns.{AtNumber}
 
 -- the first character of bytes that are UTF-8
@@ -47,10 +47,10 @@ boundary_at bytes end utf8 within ascii =
     IsCharBoundary-from_take bytes end utf8 within (IsUtf8-from_ascii (take end bytes) ascii)
 
 -- where the parser stops in the bytes of a string, one of its characters ends
-pub boundary_of_stop : {flags : Flags} {bytes text : List ℕ} {place : ℕ} {reason : Reason} → bytes ≡ text
-    → IsUtf8 bytes → IsStopAt flags bytes place reason → IsCharBoundary text place
-boundary_of_stop {bytes = bytes} {place = place} same utf8 stop =
-    subst (λ text. IsCharBoundary text place) same (boundary_at bytes place utf8 stop.within stop.ascii)
+pub boundary_of_stop : {flags : Flags} {bytes text : List ℕ} {index : ℕ} {reason : Reason} → bytes ≡ text
+    → IsUtf8 bytes → IsStopAt flags bytes index reason → IsCharBoundary text index
+boundary_of_stop {bytes = bytes} {index = index} same utf8 stop =
+    subst (λ text. IsCharBoundary text index) same (boundary_at bytes index utf8 stop.within stop.ascii)
 
 -- what follows ASCII bytes in UTF-8 is UTF-8
 pub utf8_from : (bytes : List ℕ) (end : ℕ) → IsUtf8 bytes → end ≤ length bytes → IsAscii (take end bytes)
@@ -84,9 +84,9 @@ ends_whole w n c at none other =
 pub ends_fraction : (s : SizeScan) (n c : ℕ) → AtNumber n s → size_parser_state s ≡ in_fraction → IsNoDigit c
     → EndsNumber s n c
 unfolding size_step
-ends_fraction (Fraction w f j) n c at place none =
+ends_fraction (Fraction w f j) n c at index none =
     record { step_is = rw none (ap (λ n. after_number n c) at); fault_is = λ flags. rw none refl }
-ends_fraction _ n c at place none = grind (arith, at, place)
+ends_fraction _ n c at index none = grind (arith, at, index)
 
 -- after spaces, the next character, if there is one, goes on as after the number
 pub ends_gap : (n : ℕ) (text : List ℕ) → IsFirst (EndsNumber (Gap n) n) text

@@ -184,7 +184,7 @@ run_in_unit n u (c ∷ cs) s h =
 -- the state gives the result of the number `n` and the unit of `u`, and has the parser state of `u` if a unit has begun
 pub record EndsAs (n : ℕ) (u : UnitScan) (t : SizeScan) : Type 0 where
   pub ends : (flags : Flags) → size_at_end flags t ≡ size_or_fault n (unit_of flags u)
-  pub place : unit_parser_state u ≢ before_unit → size_parser_state t ≡ unit_parser_state u
+  pub parser_state : unit_parser_state u ≢ before_unit → size_parser_state t ≡ unit_parser_state u
 
 -- a unit after a number, or none, leads to a state that has the result of this unit
 run_unit : (n : ℕ) (u : UnitScan) (s : SizeScan) (text : List ℕ) → AtNumber n s → run unit_step unit_start text ≡ Some u
@@ -196,7 +196,7 @@ run_unit n u s [] h k =
       run_is = refl;
       holds = record {
         ends = λ flags. number_end flags n s h ∙ ap (λ x. size_or_fault n (unit_of flags x)) e;
-        place = λ moved. absurd (moved (ap unit_parser_state (sym e)));
+        parser_state = λ moved. absurd (moved (ap unit_parser_state (sym e)));
       };
     }
 run_unit n u s (c ∷ cs) h k =
@@ -204,7 +204,7 @@ run_unit n u s (c ∷ cs) h k =
     record {
       state = UnitAt n u;
       run_is = run_step size_step s (UnitAt n t.0) c cs (step_unit n c s t.0 h t.1) ∙ run_in_unit n u cs t.0 t.2;
-      holds = record { ends = λ flags. refl; place = λ moved. refl };
+      holds = record { ends = λ flags. refl; parser_state = λ moved. refl };
     }
 
 -- a number, any number of spaces and a unit are read to the end
@@ -224,16 +224,16 @@ size_text_runs flags text n s h =
     record { state = r.state; run_is = r.run_is; holds = r.holds.ends flags ∙ ap (size_or_fault n) u.holds }
 
 -- a number and a viable prefix of a unit that has begun are read to a state with the parser state of the unit
-sized_front : (flags : Flags) (place : ParserState) (text : List ℕ) → place ≢ before_unit → IsNumberAndUnitPrefix current place text
-    → IsScanned (size_scan flags) place text
-sized_front flags place text moved h =
-    let u = unit_front_runs flags place h.unit_part h.unit_is in
+sized_front : (flags : Flags) (parser_state : ParserState) (text : List ℕ) → parser_state ≢ before_unit
+    → IsNumberAndUnitPrefix current parser_state text → IsScanned (size_scan flags) parser_state text
+sized_front flags parser_state text moved h =
+    let u = unit_front_runs flags parser_state h.unit_part h.unit_is in
     let r = run_numbered h.number h.spaces u.state h.number_part h.unit_part text h.text_is h.number_is u.run_is in
-    record { state = r.state; run_is = r.run_is; holds = r.holds.place (λ e. moved (sym u.holds ∙ e)) ∙ u.holds }
+    record { state = r.state; run_is = r.run_is; holds = r.holds.parser_state (λ e. moved (sym u.holds ∙ e)) ∙ u.holds }
 
 -- the state machine reads each viable prefix to its end, and has its parser state there
-pub size_front_runs : (flags : Flags) (place : ParserState) (text : List ℕ) → IsViableSizePrefix current place text
-    → IsScanned (size_scan flags) place text
+pub size_front_runs : (flags : Flags) (parser_state : ParserState) (text : List ℕ)
+    → IsViableSizePrefix current parser_state text → IsScanned (size_scan flags) parser_state text
 size_front_runs flags beginning text h =
     record { state = Beginning; run_is = ap (run size_step Beginning) h; holds = refl }
 size_front_runs flags in_whole text h = record { state = Whole h.0; run_is = run_whole text h.0 h.1; holds = refl }
@@ -247,4 +247,4 @@ size_front_runs flags before_unit text h =
     subst (IsScanned (size_scan flags) before_unit) (sym e)
     (runs_then size_step (run_number f.number_part f.number f.number_is) (λ s after.
     record { state = Gap f.number; run_is = run_some_spaces f.number f.spaces s h.1 after; holds = refl }))
-size_front_runs flags place text h = sized_front flags place text (λ e. cc) h
+size_front_runs flags parser_state text h = sized_front flags parser_state text (λ e. cc) h

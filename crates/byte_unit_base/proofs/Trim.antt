@@ -73,15 +73,15 @@ visible_start (c ∷ cs) ends =
 visible_end : (bytes : List ℕ) → IsUtf8 bytes → HasVisibleEnds bytes
     → drop_trailing_whitespace (chars bytes) ≡ chars bytes
 visible_end bytes utf8 ends =
-    let place = length bytes - 1 in
-    let inside : place < length bytes = omega (arith, ends.some) in
-    let last = get_or bytes place 0 in
+    let index = length bytes - 1 in
+    let inside : index < length bytes = omega (arith, ends.some) in
+    let last = get_or bytes index 0 in
     let ascii = visible_ascii last ends.end in
     let small : last < 128 = grind (arith, nat_tests, ends.end) in
-    let front = take place bytes in
-    let utf8_front = IsUtf8-take bytes place utf8 (IsCharBoundary-before_ascii bytes place inside small) in
+    let front = take index bytes in
+    let utf8_front = IsUtf8-take bytes index utf8 (IsCharBoundary-before_ascii bytes index inside small) in
     let whole : bytes ≡ front ++ last ∷ [] =
-    sym (take_all (place + 1) bytes (omega (arith, ends.some))) ∙ take_more bytes place 0 inside in
+    sym (take_all (index + 1) bytes (omega (arith, ends.some))) ∙ take_more bytes index 0 inside in
     let text : chars bytes ≡ chars front ++ last ∷ [] = ap chars whole
     ∙ (chars-append front (last ∷ []) utf8_front ∙ ap (λ end. chars front ++ end) (chars-IsAscii (last ∷ []) ascii)) in
     rw text (keep_last (chars front) last (visible_not_white last ends.end))

@@ -15,8 +15,8 @@ use Rattle.byte_unit_base.specs.UnitWord.{unit_stop}
 use Rattle.byte_unit_base.specs.SizeScan.{SizeScan, Beginning, Gap, UnitAt, size_step}
 use Rattle.byte_unit_base.specs.ParserEnds.{IsFirst, IsNoSpace, EndsNumber, IsLeadingNumber, IsStopAt, IsStoppedBefore}
 use Rattle.byte_unit_base.specs.ParserEnds.{IsUnitStop}
-use Rattle.byte_unit_base.specs.declared.read.stop.Reason.TheVariants.{InUnit}
-use Rattle.byte_unit_base.specs.declared.unit.scan.UnitStop.{UnitStop}
+use Rattle.byte_unit_base.specs.declared.stop.Reason.TheVariants.{InUnit}
+use Rattle.byte_unit_base.specs.declared.stop.UnitStop.{UnitStop}
 use Rattle.byte_unit_base.proofs.Options.{some_passed}
 use Rattle.byte_unit_base.proofs.Scans.{run_through, run_step, RunsTo}
 use Rattle.byte_unit_base.proofs.SizeRuns.{run_in_unit, run_gap}
@@ -79,11 +79,11 @@ after_unit flags n s (c ∷ cs) rest u number other run_is next ends =
     }
 
 -- after a number and spaces, the parser stops where that of the unit does, with its error
-pub stops_in_unit : (flags : Flags) (bytes rest : List ℕ) (n end spaces place : ℕ) (kept : UnitStop)
+pub stops_in_unit : (flags : Flags) (bytes rest : List ℕ) (n end spaces index : ℕ) (kept : UnitStop)
     → IsLeadingNumber bytes n end → rest ≡ drop end bytes → spaces ≤ length rest → take spaces rest ≡ replicate spaces space
-    → IsFirst IsNoSpace (drop spaces rest) → IsUnitStop flags (drop (end + spaces) bytes) kept place
-    → IsStopAt flags bytes (end + spaces + place) (InUnit kept)
-stops_in_unit flags bytes rest n end spaces place kept number rest_is within gap other stop =
+    → IsFirst IsNoSpace (drop spaces rest) → IsUnitStop flags (drop (end + spaces) bytes) kept index
+    → IsStopAt flags bytes (end + spaces + index) (InUnit kept)
+stops_in_unit flags bytes rest n end spaces index kept number rest_is within gap other stop =
     let unit = drop (end + spaces) bytes in
     let scan = stop.0 in
     let leads = stop.1 in
@@ -99,38 +99,38 @@ stops_in_unit flags bytes rest n end spaces place kept number rest_is within gap
     let text : chars (drop end bytes) ≡ replicate spaces space ++ chars unit =
     ap chars (sym rest_is) ∙ (text_from rest spaces gap_ascii
     ∙ (ap (λ g. g ++ chars (drop spaces rest)) gap ∙ ap (λ u. replicate spaces space ++ chars u) at_unit)) in
-    let unit_ascii = run_ascii (take place unit) unit_start scan leads.run_is in
-    let unit_text = text_from unit place unit_ascii in
+    let unit_ascii = run_ascii (take index unit) unit_start scan leads.run_is in
+    let unit_text = text_from unit index unit_ascii in
     record {
       within = omega (arith, inside, leads.within, length-drop (end + spaces) bytes);
-      ascii = subst IsAscii (sym (take-add (end + spaces) place bytes))
-          (IsAscii-append (take (end + spaces) bytes) (take place unit) ascii unit_ascii);
+      ascii = subst IsAscii (sym (take-add (end + spaces) index bytes))
+          (IsAscii-append (take (end + spaces) bytes) (take index unit) ascii unit_ascii);
       stopped = λ utf8.
           let utf8_unit = utf8_from bytes (end + spaces) utf8 inside ascii in
-          let after = chars (drop place unit) in
+          let after = chars (drop index unit) in
           let a = after_spaces n spaces number.state (chars unit)
           (subst (IsFirst (EndsNumber number.state n)) text (number.next utf8)) in
           let no_space = first_char IsNoSpace (λ c wide. λ e. omega (arith, wide, e)) unit utf8_unit
           (subst (IsFirst IsNoSpace) at_unit other) in
           let no_letter = first_char (λ c. unit_step scan c ≡ None)
-          (λ c wide. no_other_step scan.multiple scan.word c (inr (omega (arith, wide)))) (drop place unit)
-          (utf8_from unit place utf8_unit leads.within unit_ascii) leads.next in
-          let b = after_unit flags n a.state (take place unit) after scan
+          (λ c wide. no_other_step scan.multiple scan.word c (inr (omega (arith, wide)))) (drop index unit)
+          (utf8_from unit index utf8_unit leads.within unit_ascii) leads.next in
+          let b = after_unit flags n a.state (take index unit) after scan
           (subst (IsFirst (EndsNumber a.state n)) unit_text a.holds) (subst (IsFirst IsNoSpace) unit_text no_space)
           leads.run_is no_letter
-          (λ none. stop.2 (none_left unit place utf8_unit leads.within unit_ascii none)) in
+          (λ none. stop.2 (none_left unit index utf8_unit leads.within unit_ascii none)) in
           let to_unit = run_through size_step Beginning number.state (take end bytes) (replicate spaces space) number.run_is
           ∙ a.run_is in
           record {
             state = b.state;
             run_is = ap (run size_step Beginning)
-                (take-add (end + spaces) place bytes ∙ ap (λ f. f ++ take place unit)
+                (take-add (end + spaces) index bytes ∙ ap (λ f. f ++ take index unit)
                 (front ∙ ap (λ g. take end bytes ++ g) gap))
-                ∙ (run_through size_step Beginning a.state (take end bytes ++ replicate spaces space) (take place unit)
+                ∙ (run_through size_step Beginning a.state (take end bytes ++ replicate spaces space) (take index unit)
                 to_unit ∙ b.run_is);
-            before = subst (λ kept. IsStoppedBefore flags b.state (InUnit kept) (chars (drop (end + spaces + place) bytes)))
+            before = subst (λ kept. IsStoppedBefore flags b.state (InUnit kept) (chars (drop (end + spaces + index) bytes)))
                 stop.3
                 (subst (λ r. IsStoppedBefore flags b.state (InUnit (unit_stop scan)) (chars r))
-                (drop-drop place (end + spaces) bytes) b.holds);
+                (drop-drop index (end + spaces) bytes) b.holds);
           };
     }

@@ -16,7 +16,7 @@ use Rattle.byte_unit_base.specs.UnitScan.{unit_step, multiple_step, multiple_sha
 use Rattle.byte_unit_base.specs.UnitScan.{Multiple, One, Decimal, Binary, Empty}
 use Rattle.byte_unit_base.specs.UnitWord.{letter_power, multiple_of, word_of, bits_len, has_prefix}
 use Rattle.byte_unit_base.specs.Units.{shape_of}
-use Rattle.byte_unit_base.specs.BinaryReading.{binary_of}
+use Rattle.byte_unit_base.specs.ParseSpec.{binary_of}
 use Rattle.byte_unit_base.specs.declared.unit.Unit.{Unit as UnitName}
 use Rattle.byte_unit_base.specs.declared.unit.Unit.TheVariants.{Bit}
 use Rattle.byte_unit_base.specs.declared.unit.tables.TheConstants.{LETTER_POWERS}
@@ -37,13 +37,6 @@ power_few letter =
       | Some p ↦ λ is. omega (arith, (prefix_found letter p is).1)
       | None ↦ λ is. omega arith
     ] refl
-
--- the unit of the prefix at a position has this position
-pub shape_of_power : (n : ℕ) → 1 ≤ n → n ≤ 9 → (binary bit : Bool)
-    → multiple_shape (multiple_of n binary) bit ≡ shape n binary bit
-shape_of_power zero some few _ _ = absurd (omega (arith, some))
-shape_of_power (suc n) some few true bit = refl
-shape_of_power (suc n) some few false bit = refl
 
 -- the binary prefix at the position of the prefix of a unit, or none, gives the binary unit of this unit
 pub binary_shape : (unit : UnitName)

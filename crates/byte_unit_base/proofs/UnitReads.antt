@@ -40,9 +40,9 @@ some_prefix (Decimal p) text h = inr (p, false, h)
 some_prefix (Binary p) text h = inr (p, true, h)
 
 -- a prefix, or none, and a beginning of a suffix are a viable prefix of a unit
-word_front : (place : ParserState) (m : Multiple) (w : SuffixPart) (text : List ℕ) (r : Reached (scan_of m w) text)
-    → IsWord place r.word → IsViableWordPrefix current place text
-word_front place m w text r h = record {
+word_front : (parser_state : ParserState) (m : Multiple) (w : SuffixPart) (text : List ℕ) (r : Reached (scan_of m w) text)
+    → IsWord parser_state r.word → IsViableWordPrefix current parser_state text
+word_front parser_state m w text r h = record {
   prefix_part = r.front;
   word_part = r.word;
   text_is = r.text_is;

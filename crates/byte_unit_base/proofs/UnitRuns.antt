@@ -148,8 +148,8 @@ spelling_runs flags text s (inr h) =
     }
 
 -- each beginning of `bits` is that of a state, which has its parser state
-word_of : (place : ParserState) (m : Multiple) (text : List ℕ) → IsWord place text
-    → (w : SuffixPart) × (run unit_step (scan_of m Empty) text ≡ Some (scan_of m w)) × (word_parser_state m w ≡ place)
+word_of : (parser_state : ParserState) (m : Multiple) (text : List ℕ) → IsWord parser_state text
+    → (w : SuffixPart) × (run unit_step (scan_of m Empty) text ≡ Some (scan_of m w)) × (word_parser_state m w ≡ parser_state)
 word_of after_b m (b ∷ []) h = ⊎_elim (λ small. (LowerB, run_suffix m LowerB (b ∷ []) (ap (λ x. x ∷ []) small), refl))
     (λ capital. let same : b ≡ 66 = omega arith in (UpperB, run_suffix m UpperB (b ∷ []) (ap (λ x. x ∷ []) same), refl))
     (from_lowercase b 98 (omega arith) (omega arith) (cc))
@@ -160,13 +160,13 @@ word_of after_bits m text h = (Bits, run_suffix m Bits text h, refl)
 word_of _ m text h = absurd h
 
 -- a prefix, or none, and a beginning of a suffix are read to their end, and have their parser state there
-run_word_front : (flags : Flags) (place : ParserState) (text : List ℕ) → IsViableWordPrefix current place text
-    → IsScanned (unit_scan flags) place text
-run_word_front flags place text h =
+run_word_front : (flags : Flags) (parser_state : ParserState) (text : List ℕ)
+    → IsViableWordPrefix current parser_state text → IsScanned (unit_scan flags) parser_state text
+run_word_front flags parser_state text h =
     let front : (m : Multiple) × (run unit_step start h.prefix_part ≡ Some (scan_of m Empty)) =
     ⊎_elim (λ none. (One, ap (run unit_step start) none))
     (λ is. let p = run_prefix h.prefix_part is.0 is.1 is.2 in (p.multiple, p.run)) h.prefix_is in
-    let word = word_of place front.0 h.word_part h.word_is in
+    let word = word_of parser_state front.0 h.word_part h.word_is in
     record {
       state = scan_of front.0 word.0;
       run_is = ap (run unit_step start) h.text_is
@@ -175,11 +175,11 @@ run_word_front flags place text h =
     }
 
 -- the state machine reads each viable prefix to its end, and has its parser state there
-pub unit_front_runs : (flags : Flags) (place : ParserState) (text : List ℕ) → IsViableUnitPrefix current place text
-    → IsScanned (unit_scan flags) place text
+pub unit_front_runs : (flags : Flags) (parser_state : ParserState) (text : List ℕ)
+    → IsViableUnitPrefix current parser_state text → IsScanned (unit_scan flags) parser_state text
 unit_front_runs flags before_unit text h =
     record { state = start; run_is = ap (run unit_step start) h; holds = refl }
 unit_front_runs flags after_prefix text h =
     let p = run_prefix text h.0 h.1 h.2 in
     record { state = scan_of p.multiple Empty; run_is = p.run; holds = p.place_is }
-unit_front_runs flags place text h = run_word_front flags place text h
+unit_front_runs flags parser_state text h = run_word_front flags parser_state text h

@@ -36,11 +36,11 @@ pub spelled_chars : (flags : Flags) (bytes : List ℕ) (unit : Shape) → Spells
 spelled_chars flags bytes unit h = chars-IsAscii bytes (run_ascii bytes start _ (spelling_runs flags bytes unit h).run_is)
 
 -- if the beginning of a unit is all that there is, it spells the unit of its state
-pub spelled : (flags : Flags) (bytes : List ℕ) (scan : UnitScan) (unit : Shape) (place : ℕ)
-    → IsLeadingUnit bytes scan place → place ≡ length bytes → unit_of flags scan ≡ Some unit
+pub spelled : (flags : Flags) (bytes : List ℕ) (scan : UnitScan) (unit : Shape) (index : ℕ)
+    → IsLeadingUnit bytes scan index → index ≡ length bytes → unit_of flags scan ≡ Some unit
     → Spells current flags bytes unit
-spelled flags bytes scan unit place leads all e =
-    let whole : take place bytes ≡ bytes = take_all place bytes (omega (arith, all)) in
+spelled flags bytes scan unit index leads all e =
+    let whole : take index bytes ≡ bytes = take_all index bytes (omega (arith, all)) in
     Spells-reached flags scan.multiple scan.word bytes unit e
     (reached (unit_scan_is flags) bytes scan (ap (run unit_step start) (sym whole) ∙ leads.run_is))
 
@@ -67,13 +67,13 @@ unit_fault_after flags scan (c ∷ cs) ends =
     ap (λ state. fault_at current flags state c) (sym (kept_state scan.multiple scan.word))
 
 -- if no character is left after the first bytes, which are ASCII, these are all of the bytes
-pub none_left : (bytes : List ℕ) (place : ℕ) → IsUtf8 bytes → place ≤ length bytes → IsAscii (take place bytes)
-    → chars (drop place bytes) ≡ [] → place ≡ length bytes
-none_left bytes place utf8 within ascii none =
-    let rest = drop place bytes in
+pub none_left : (bytes : List ℕ) (index : ℕ) → IsUtf8 bytes → index ≤ length bytes → IsAscii (take index bytes)
+    → chars (drop index bytes) ≡ [] → index ≡ length bytes
+none_left bytes index utf8 within ascii none =
+    let rest = drop index bytes in
     let empty : rest ≡ [] =
-    sym (encodes-chars rest (utf8_from bytes place utf8 within ascii)) ∙ ap encode_utf8_all none in
-    omega (arith, within, length-drop place bytes, ap length empty)
+    sym (encodes-chars rest (utf8_from bytes index utf8 within ascii)) ∙ ap encode_utf8_all none in
+    omega (arith, within, length-drop index bytes, ap length empty)
 
 -- the longest beginning of a unit
 

@@ -1,40 +1,35 @@
--- What it means that an input is accepted as a size, or rejected. An input is given by its UTF-8 bytes. A parameter,
--- `meant`, is the unit that a reading takes for the unit that is written: that unit, or its binary unit
--- (`BinaryReading`).
-use Rattle.std.specs.Prelude.{◌≡◌, ℕ, ◌<◌, ◌≤◌, ◌⊎◌, Bool, List}
+-- What it means that an input is accepted as a size, or rejected. An input is given by its UTF-8 bytes.
+use Rattle.std.specs.Prelude.{◌≡◌, ℕ, ◌<◌, ◌≤◌, ◌⊎◌, Bool, false, List}
 use Rattle.byte_unit_base.specs.Shape.{Shape}
 use Rattle.byte_unit_base.specs.Version.{Version, current}
 use Rattle.byte_unit_base.specs.SizeText.{IsSizeText, trim_of}
 use Rattle.byte_unit_base.specs.Fault.{Fault, exceeded, IsSizeFault}
 use Rattle.byte_unit_base.specs.declared.kind.Kind.{Kind}
 use Rattle.byte_unit_base.specs.Kinds.{flags_for}
+use Rattle.byte_unit_base.specs.ParseSpec.{ParseSpec, parse_spec, unit_meant}
 use Rattle.byte_unit_base.specs.LeastOfKind.{IsLeastOf}
-
--- the unit that is written is the one that is meant
-abbrev pub as_written : Shape → Shape
-as_written unit = unit
 
 -- without the white space at its ends, the input is `number` (scaled by 10^28) of some unit, and `n` is that number of
 -- the unit that is meant, rounded up to a whole number of bytes or bits
 pub record IsReadAs
-    (meant : Shape → Shape) (version : Version) (kind : Kind) (ignore_case : Bool) (text : List ℕ) (number n : ℕ)
+    (spec : ParseSpec) (version : Version) (text : List ℕ) (number n : ℕ)
     : Type 0 where
   pub unit : Shape
-  pub is_size : IsSizeText version (flags_for kind ignore_case) (trim_of text) number unit
-  pub is_least : IsLeastOf kind number (meant unit) n
+  pub is_size : IsSizeText version (flags_for spec.kind spec.ignore_case) (trim_of text) number unit
+  pub is_least : IsLeastOf spec.kind number (unit_meant spec unit) n
 
 -- the input is accepted as a size of `n` bytes or bits, which is below the limit of the version; `number`
 -- is the number in it, scaled by 10^28
 pub record IsAcceptedAs
-    (meant : Shape → Shape) (version : Version) (kind : Kind) (ignore_case : Bool) (text : List ℕ) (n : ℕ)
+    (spec : ParseSpec) (version : Version) (text : List ℕ) (n : ℕ)
     : Type 0 where
   pub number : ℕ
-  pub is_read : IsReadAs meant version kind ignore_case text number n
+  pub is_read : IsReadAs spec version text number n
   pub below : n < version.size_limit
 
 -- the input is accepted as a size in a version, by the unit that is written
 abbrev pub IsAcceptedIn : Version → Kind → Bool → List ℕ → ℕ → Type 0
-IsAcceptedIn = IsAcceptedAs as_written
+IsAcceptedIn version kind ignore_case = IsAcceptedAs (parse_spec kind ignore_case false) version
 
 -- The string is accepted as the size n in the current version.
 abbrev pub IsAccepted : Kind → Bool → List ℕ → ℕ → Type 0
@@ -43,16 +38,16 @@ IsAccepted = IsAcceptedIn current
 -- the input is in the grammar, but its size reaches the limit of the version; `number` is its number as written, scaled
 -- by 10^28
 pub record ExceedsAs
-    (meant : Shape → Shape) (version : Version) (kind : Kind) (ignore_case : Bool) (text : List ℕ) (number : ℕ)
+    (spec : ParseSpec) (version : Version) (text : List ℕ) (number : ℕ)
     : Type 0 where
   pub size : ℕ
-  pub is_read : IsReadAs meant version kind ignore_case text number size
+  pub is_read : IsReadAs spec version text number size
   pub above : version.size_limit ≤ size
 
 -- The string is in the grammar of the current version, but its size, with this number as it is written, is 10^30 or
 -- more.
 abbrev pub Exceeds : Kind → Bool → List ℕ → ℕ → Type 0
-Exceeds = ExceedsAs as_written current
+Exceeds kind ignore_case = ExceedsAs (parse_spec kind ignore_case false) current
 
 -- without the white space at its ends, the input is not in the grammar, and this is its error: that of the first
 -- character which no valid input has there
@@ -64,14 +59,14 @@ abbrev pub HasFault : Kind → Bool → List ℕ → Fault → Type 0
 HasFault = HasFaultIn current
 
 -- the input is rejected with this error: its size is too large, or it is not in the grammar
-abbrev pub IsRejectedAs : (Shape → Shape) → Version → Kind → Bool → List ℕ → Fault → Type 0
-IsRejectedAs meant version kind ignore_case text fault =
-    ((number : ℕ) × (fault ≡ exceeded number) × ExceedsAs meant version kind ignore_case text number)
-    ⊎ HasFaultIn version kind ignore_case text fault
+abbrev pub IsRejectedAs : ParseSpec → Version → List ℕ → Fault → Type 0
+IsRejectedAs spec version text fault =
+    ((number : ℕ) × (fault ≡ exceeded number) × ExceedsAs spec version text number)
+    ⊎ HasFaultIn version spec.kind spec.ignore_case text fault
 
 -- the input is rejected in a version, by the unit that is written
 abbrev pub IsRejectedIn : Version → Kind → Bool → List ℕ → Fault → Type 0
-IsRejectedIn = IsRejectedAs as_written
+IsRejectedIn version kind ignore_case = IsRejectedAs (parse_spec kind ignore_case false) version
 
 -- The string is rejected with this error in the current version.
 abbrev pub IsRejected : Kind → Bool → List ℕ → Fault → Type 0

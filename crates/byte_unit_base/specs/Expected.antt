@@ -3,9 +3,9 @@
 use Rattle.std.specs.Prelude.{ℕ, List, [], ◌++◌, codes}
 use Rattle.byte_unit_base.specs.Version.{current}
 use Rattle.byte_unit_base.specs.Fault.{Fault, bad_unit}
-use Rattle.byte_unit_base.specs.declared.unit.scan.Expected.{Expected}
-use Rattle.byte_unit_base.specs.declared.unit.scan.Expected.TheVariants.{Beginning, EitherB, UpperB, LowerB, I, T, S}
-use Rattle.byte_unit_base.specs.declared.unit.scan.Expected.TheVariants.{Nothing}
+use Rattle.byte_unit_base.specs.declared.stop.Expected.{Expected}
+use Rattle.byte_unit_base.specs.declared.stop.Expected.TheVariants.{Beginning, EitherB, UpperB, LowerB, I, T, S}
+use Rattle.byte_unit_base.specs.declared.stop.Expected.TheVariants.{Nothing}
 
 -- these characters
 abbrev pub expected_codes : Expected → List ℕ

@@ -69,19 +69,19 @@ fault_at_end _ = None
 
 -- the error by the parser state after the longest viable prefix, and by the rest of the input
 abbrev pub IsFaultAfter : Version → Flags → ParserState → List ℕ → Fault → Type 0
-IsFaultAfter version flags place [] fault = fault_at_end place ≡ Some fault
-IsFaultAfter version flags place (c ∷ rest) fault = fault ≡ fault_at version flags place c
+IsFaultAfter version flags parser_state [] fault = fault_at_end parser_state ≡ Some fault
+IsFaultAfter version flags parser_state (c ∷ rest) fault = fault ≡ fault_at version flags parser_state c
 
 -- the error of an input is that after its longest viable prefix; `IsViable` says what a viable prefix is; `front`
--- is that prefix, and `place` the parser state after it
+-- is that prefix, and `parser_state` the parser state after it
 pub record IsFirstFault
     (IsViable : ParserState → List ℕ → Type 0) (version : Version) (flags : Flags) (text : List ℕ) (fault : Fault)
     : Type 0 where
-  pub place : ParserState
+  pub parser_state : ParserState
   pub front : List ℕ
   pub rest : List ℕ
-  pub longest : IsLongestViablePrefix IsViable text place front rest
-  pub fault_is : IsFaultAfter version flags place rest fault
+  pub longest : IsLongestViablePrefix IsViable text parser_state front rest
+  pub fault_is : IsFaultAfter version flags parser_state rest fault
 
 -- the error of an input that does not spell a unit
 abbrev pub IsUnitFault : Version → Flags → List ℕ → Fault → Type 0

@@ -14,6 +14,7 @@ pub mod Kinds
 pub mod UnitLists
 pub mod LeastOfKind
 pub mod SizeOrNone
+pub mod ParseSpec
 pub mod Accepted
 pub mod Line
 pub mod Scan

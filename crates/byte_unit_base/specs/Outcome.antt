@@ -9,13 +9,15 @@ use Rattle.byte_unit_base.specs.Readings.{IsNumberReading, IsUnitReading}
 use Rattle.byte_unit_base.specs.Spelling.{Flags}
 use Rattle.byte_unit_base.specs.declared.errors.ParseError.{ParseError}
 use Rattle.byte_unit_base.specs.declared.errors.UnitParseError.{UnitParseError}
-use Rattle.byte_unit_base.specs.declared.read.stop.Stop.{Stop}
+use Rattle.byte_unit_base.specs.declared.read.Measure.{Measure}
+use Rattle.byte_unit_base.specs.declared.stop.Reason.{Reason}
+use Rattle.byte_unit_base.specs.declared.stop.Stop.{Stop}
 use Rattle.byte_unit_base.specs.declared.unit.Unit.{Unit as UnitName}
-use Rattle.byte_unit_base.specs.declared.unit.scan.UnitStop.{UnitStop}
+use Rattle.byte_unit_base.specs.declared.stop.UnitStop.{UnitStop}
 
 -- the parser stops in this string: the error by the reason and by the character, or the end, is that of the string, the
 -- index is its position, and both give its location
-pub record IsStop (flags : Flags) (bytes : List ℕ) (stop : Stop) : Type 0 where
+pub record IsStop (flags : Flags) (bytes : List ℕ) (stop : Stop Reason) : Type 0 where
   pub utf8 : IsUtf8 bytes
   pub reading : (error : ParseError) → size_fault error ≡ stop_fault flags stop.reason stop.next
       → IsNumberReading flags bytes (Err error)
@@ -23,16 +25,16 @@ pub record IsStop (flags : Flags) (bytes : List ℕ) (stop : Stop) : Type 0 wher
   pub location : IsSizeLocation bytes (location_at bytes stop.index stop.next)
 
 -- the number and the unit of the string, or where the parser stops in it
-abbrev pub IsNumberOrStop : Flags → List ℕ → Result (UnitName × ℕ) Stop → Type 0
-IsNumberOrStop flags bytes (Ok (unit, number)) = IsNumberReading flags bytes (Ok (number, unit))
+abbrev pub IsNumberOrStop : Flags → List ℕ → Result Measure (Stop Reason) → Type 0
+IsNumberOrStop flags bytes (Ok found) = IsNumberReading flags bytes (Ok (found.number, found.unit))
 IsNumberOrStop flags bytes (Err stop) = IsStop flags bytes stop
 
 -- the unit of the string; or what was read before the parser stops in it, and the character there, or `None` at the
 -- end, by which the error is that of the string, and the position of this error; they give its location
-abbrev pub IsUnitOrStop : Flags → List ℕ → Result UnitName (UnitStop × Option ℕ × ℕ) → Type 0
+abbrev pub IsUnitOrStop : Flags → List ℕ → Result UnitName (Stop UnitStop) → Type 0
 IsUnitOrStop flags bytes (Ok unit) = IsUnitReading flags bytes (Ok unit)
-IsUnitOrStop flags bytes (Err (stop, next, position)) =
-    ((error : UnitParseError) → unit_fault error ≡ unit_stop_fault flags stop next
+IsUnitOrStop flags bytes (Err stop) =
+    ((error : UnitParseError) → unit_fault error ≡ unit_stop_fault flags stop.reason stop.next
     → IsUnitReading flags bytes (Err error))
-    × IsUnitPosition bytes (Some position)
-    × IsUnitLocation bytes (location_at bytes position next)
+    × IsUnitPosition bytes (Some stop.index)
+    × IsUnitLocation bytes (location_at bytes stop.index stop.next)

@@ -1,7 +1,7 @@
 -- What the parsers return for an input, as functions. A proof can compute them for a literal, an input that is written
 -- in a program. An input is given by its UTF-8 bytes. It is proved that they are what the other files say
 -- (`ParsedLaws`).
-use Rattle.std.specs.Prelude.{ℕ, ◌+◌, ◌-◌, ◌*◌, ◌/◌, Bool, List, Result, Ok, Err, if◌then◌else◌, nat_lt}
+use Rattle.std.specs.Prelude.{ℕ, ◌+◌, ◌-◌, ◌*◌, ◌/◌, Bool, false, List, Result, Ok, Err, if◌then◌else◌, nat_lt}
 use Rattle.byte_unit_math.specs.Bounds.{scale, size_limit}
 use Rattle.byte_unit_base.specs.Shape.{Shape, bits}
 use Rattle.byte_unit_base.specs.UnitLists.{unit_of_shape}
@@ -9,7 +9,7 @@ use Rattle.byte_unit_base.specs.Spelling.{Flags}
 use Rattle.byte_unit_base.specs.SizeText.{trim_of}
 use Rattle.byte_unit_base.specs.Fault.{Fault, exceeded}
 use Rattle.byte_unit_base.specs.Kinds.{flags_for, bits_in}
-use Rattle.byte_unit_base.specs.Accepted.{as_written}
+use Rattle.byte_unit_base.specs.ParseSpec.{ParseSpec, parse_spec, unit_meant}
 use Rattle.byte_unit_base.specs.Scan.{read}
 use Rattle.byte_unit_base.specs.UnitScan.{unit_scan, start}
 use Rattle.byte_unit_base.specs.SizeScan.{size_scan, Beginning}
@@ -37,15 +37,14 @@ abbrev pub size_within_limit : ℕ → ℕ → Result ℕ Fault
 size_within_limit number size = if nat_lt size size_limit then Ok size else Err (exceeded number)
 
 -- the size of this number and of the unit that is meant, or the error
-abbrev pub size_of_parsed : (Shape → Shape) → Kind → Result (ℕ × Shape) Fault → Result ℕ Fault
-size_of_parsed meant kind (Ok found) = size_within_limit found.0 (rounded_up kind found.0 (meant found.1))
-size_of_parsed meant kind (Err fault) = Err fault
+abbrev pub size_of_parsed : ParseSpec → Result (ℕ × Shape) Fault → Result ℕ Fault
+size_of_parsed spec (Ok found) = size_within_limit found.0 (rounded_up spec.kind found.0 (unit_meant spec found.1))
+size_of_parsed spec (Err fault) = Err fault
 
 -- the size that the input is accepted as, or the error that it is rejected with
-unfoldable pub parsed_size_as : (Shape → Shape) → Kind → Bool → List ℕ → Result ℕ Fault
-parsed_size_as meant kind ignore_case bytes =
-    size_of_parsed meant kind (parsed_number (flags_for kind ignore_case) bytes)
+unfoldable pub parsed_size_as : ParseSpec → List ℕ → Result ℕ Fault
+parsed_size_as spec bytes = size_of_parsed spec (parsed_number (flags_for spec.kind spec.ignore_case) bytes)
 
 -- the size that the input is accepted as, or the error, by the unit that is written
 abbrev pub parsed_size : Kind → Bool → List ℕ → Result ℕ Fault
-parsed_size = parsed_size_as as_written
+parsed_size kind ignore_case = parsed_size_as (parse_spec kind ignore_case false)

@@ -19,12 +19,15 @@ use Rattle.byte_unit_base.specs.UnitWord.{unit_stop, stop_parser_state}
 use Rattle.byte_unit_base.specs.SizeScan.{SizeScan, Beginning, size_step, size_parser_state}
 use Rattle.byte_unit_base.specs.SizeScan.{after_number}
 use Rattle.byte_unit_base.specs.declared.unit.Unit.{Unit as UnitName}
-use Rattle.byte_unit_base.specs.declared.read.stop.ByteStop.{ByteStop}
-use Rattle.byte_unit_base.specs.declared.read.stop.NumberStop.{NumberStop}
-use Rattle.byte_unit_base.specs.declared.read.stop.NumberStop.TheVariants.{NoWhole, NoFraction, TooLong}
-use Rattle.byte_unit_base.specs.declared.read.stop.Reason.{Reason}
-use Rattle.byte_unit_base.specs.declared.read.stop.Reason.TheVariants.{InNumber, InUnit}
-use Rattle.byte_unit_base.specs.declared.unit.scan.UnitStop.{UnitStop}
+use Rattle.byte_unit_base.specs.declared.stop.ByteStop.{ByteStop}
+use Rattle.byte_unit_base.specs.declared.stop.NumberStop.{NumberStop}
+use Rattle.byte_unit_base.specs.declared.stop.NumberStop.TheVariants.{NoWhole, NoFraction, TooLong}
+use Rattle.byte_unit_base.specs.declared.stop.Reason.{Reason}
+use Rattle.byte_unit_base.specs.declared.stop.Reason.TheVariants.{InNumber, InUnit}
+use Rattle.byte_unit_base.specs.declared.read.Measure.{Measure}
+use Rattle.byte_unit_base.specs.declared.read.digits.Whole.{Whole}
+use Rattle.byte_unit_base.specs.declared.read.digits.Whole.TheVariants.{Value, TooLong as TooLongAt}
+use Rattle.byte_unit_base.specs.declared.stop.UnitStop.{UnitStop}
 
 -- the first and the last byte are visible characters of ASCII
 pub record HasVisibleEnds (bytes : List ℕ) : Type 0 where
@@ -47,7 +50,7 @@ pub record IsLineOf (line bytes : List ℕ) : Type 0 where
   pub bytes_are : bytes ≡ line ++ after
   pub ends : IsAfterLine after
 
--- the first eight bytes, and 0 in place of those after the end
+-- the first eight bytes, and 0 in index of those after the end
 abbrev pub first_eight : List ℕ → List ℕ
 first_eight bytes = take 8 (bytes ++ replicate 8 0)
 
@@ -55,11 +58,16 @@ first_eight bytes = take 8 (bytes ++ replicate 8 0)
 abbrev pub IsNoSpace : ℕ → Type 0
 IsNoSpace c = c ≢ space
 
--- with the digit at this place the value of the digits reaches the limit of a whole part
-pub record IsLimitAt (digits : List ℕ) (place : ℕ) : Type 0 where
-  pub inside : place < length digits
-  pub below : digits_value 10 (take place digits) < whole_limit
-  pub above : whole_limit ≤ digits_value 10 (take (place + 1) digits)
+-- with the digit at this index the value of the digits reaches the limit of a whole part
+pub record IsLimitAt (digits : List ℕ) (index : ℕ) : Type 0 where
+  pub inside : index < length digits
+  pub below : digits_value 10 (take index digits) < whole_limit
+  pub above : whole_limit ≤ digits_value 10 (take (index + 1) digits)
+
+-- the value of the digits, below the limit of a whole part, or the index of the digit with which it reaches the limit
+abbrev pub IsWhole : List ℕ → Whole → Type 0
+IsWhole digits (Value n) = (n < whole_limit) × (n ≡ digits_value 10 digits)
+IsWhole digits (TooLongAt index) = IsLimitAt digits index
 
 -- the bytes begin with a beginning of a unit, of this length, and with no longer one: the state machine has this state
 -- after it, and no step at what follows
@@ -68,17 +76,17 @@ pub record IsLeadingUnit (bytes : List ℕ) (scan : UnitScan) (end : ℕ) : Type
   pub run_is : run unit_step start (take end bytes) ≡ Some scan
   pub next : IsFirst (λ c. unit_step scan c ≡ None) (drop end bytes)
 
--- the parser of a unit stops in these bytes, which spell none, at this place; of its state is kept whether it has a
+-- the parser of a unit stops in these bytes, which spell none, at this index; of its state is kept whether it has a
 -- prefix, and the letters of the suffix after it
 abbrev pub IsUnitStop : Flags → List ℕ → UnitStop → ℕ → Type 0
-IsUnitStop flags bytes stop place =
-    (scan : UnitScan) × IsLeadingUnit bytes scan place × (place ≡ length bytes → unit_of flags scan ≡ None)
+IsUnitStop flags bytes stop index =
+    (scan : UnitScan) × IsLeadingUnit bytes scan index × (index ≡ length bytes → unit_of flags scan ≡ None)
     × (unit_stop scan ≡ stop)
 
 -- the unit that the bytes spell, or where the parser of a unit stops in them
-abbrev pub IsUnitEnd : Flags → List ℕ → Result UnitName (UnitStop × ℕ) → Type 0
+abbrev pub IsUnitEnd : Flags → List ℕ → Result UnitName (ByteStop UnitStop) → Type 0
 IsUnitEnd flags bytes (Ok unit) = Spells current flags bytes (shape_of unit)
-IsUnitEnd flags bytes (Err stop) = IsUnitStop flags bytes stop.0 stop.1
+IsUnitEnd flags bytes (Err stop) = IsUnitStop flags bytes stop.reason stop.index
 
 -- the error of an input in which the parser of a unit stops here, by the character there
 abbrev pub unit_stop_fault : Flags → UnitStop → Option ℕ → Fault
@@ -105,23 +113,23 @@ IsStoppedBefore flags state reason rest =
     IsFirst (λ c. size_step state c ≡ None) rest
     × IsFaultAfter current flags (size_parser_state state) rest (stop_fault flags reason (next_char rest))
 
--- the state machine of sizes has this state after the bytes before this place, and an error there
-pub record IsStopped (flags : Flags) (bytes : List ℕ) (place : ℕ) (reason : Reason) : Type 0 where
+-- the state machine of sizes has this state after the bytes before this index, and an error there
+pub record IsStopped (flags : Flags) (bytes : List ℕ) (index : ℕ) (reason : Reason) : Type 0 where
   pub state : SizeScan
-  pub run_is : run size_step Beginning (take place bytes) ≡ Some state
-  pub before : IsStoppedBefore flags state reason (chars (drop place bytes))
+  pub run_is : run size_step Beginning (take index bytes) ≡ Some state
+  pub before : IsStoppedBefore flags state reason (chars (drop index bytes))
 
--- the parser stops in this input at this place and for this reason
-pub record IsStopAt (flags : Flags) (bytes : List ℕ) (place : ℕ) (reason : Reason) : Type 0 where
-  pub within : place ≤ length bytes
-  pub ascii : IsAscii (take place bytes)
-  pub stopped : IsUtf8 bytes → IsStopped flags bytes place reason
+-- the parser stops in this input at this index and for this reason
+pub record IsStopAt (flags : Flags) (bytes : List ℕ) (index : ℕ) (reason : Reason) : Type 0 where
+  pub within : index ≤ length bytes
+  pub ascii : IsAscii (take index bytes)
+  pub stopped : IsUtf8 bytes → IsStopped flags bytes index reason
 
--- the bytes have visible ends, they are ASCII from this place on, and this is the character there
-pub record IsVisibleNext (bytes : List ℕ) (place : ℕ) (next : Option ℕ) : Type 0 where
+-- the bytes have visible ends, they are ASCII from this index on, and this is the character there
+pub record IsVisibleNext (bytes : List ℕ) (index : ℕ) (next : Option ℕ) : Type 0 where
   pub ends : HasVisibleEnds bytes
-  pub ascii : IsAscii (drop place bytes)
-  pub next_is : next ≡ next_char (chars (drop place bytes))
+  pub ascii : IsAscii (drop index bytes)
+  pub next_is : next ≡ next_char (chars (drop index bytes))
 
 -- the character ends the number `n` of this state: it is a space, or begins a unit, or has the error of one that does
 -- not
@@ -139,11 +147,11 @@ pub record IsLeadingNumber (bytes : List ℕ) (n end : ℕ) : Type 0 where
   pub next : IsUtf8 bytes → IsFirst (EndsNumber state n) (chars (drop end bytes))
 
 -- the number with which the bytes begin, or why and where the parser stops in it
-abbrev pub IsNumberEnd : List ℕ → Result (ℕ × ℕ) (NumberStop × ℕ) → Type 0
+abbrev pub IsNumberEnd : List ℕ → Result (ℕ × ℕ) (ByteStop NumberStop) → Type 0
 IsNumberEnd bytes (Ok found) = IsLeadingNumber bytes found.1 found.0
-IsNumberEnd bytes (Err stop) = (flags : Flags) → IsStopAt flags bytes stop.1 (InNumber stop.0)
+IsNumberEnd bytes (Err stop) = (flags : Flags) → IsStopAt flags bytes stop.index (InNumber stop.reason)
 
 -- the number and the unit that the bytes are, or where the parser stops in them
-abbrev pub IsNumberAndUnitEnd : Flags → List ℕ → Result (UnitName × ℕ) ByteStop → Type 0
-IsNumberAndUnitEnd flags bytes (Ok found) = IsSizeText current flags bytes found.1 (shape_of found.0)
-IsNumberAndUnitEnd flags bytes (Err stop) = IsStopAt flags bytes stop.place stop.reason
+abbrev pub IsNumberAndUnitEnd : Flags → List ℕ → Result Measure (ByteStop Reason) → Type 0
+IsNumberAndUnitEnd flags bytes (Ok found) = IsSizeText current flags bytes found.number (shape_of found.unit)
+IsNumberAndUnitEnd flags bytes (Err stop) = IsStopAt flags bytes stop.index stop.reason

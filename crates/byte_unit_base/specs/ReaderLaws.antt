@@ -38,13 +38,15 @@ CanBecome Meaning Means text = (rest : List ℕ) × (meaning : Meaning) × Means
 abbrev pub ViableUnitPrefixesAreBeginnings : Type 0
 ViableUnitPrefixesAreBeginnings =
     (flags : Flags) (text : List ℕ)
-    → ((place : ParserState) × IsViableUnitPrefix current place text) ↔ CanBecome Shape (Spells current flags) text
+    → ((parser_state : ParserState) × IsViableUnitPrefix current parser_state text)
+    ↔ CanBecome Shape (Spells current flags) text
 
 -- law: the viable prefixes of a number and a unit are exactly the beginnings of the inputs in the grammar
 abbrev pub ViableSizePrefixesAreBeginnings : Type 0
 ViableSizePrefixesAreBeginnings =
     (flags : Flags) (text : List ℕ)
-    → ((place : ParserState) × IsViableSizePrefix current place text) ↔ CanBecome (ℕ × Shape) (Represents flags) text
+    → ((parser_state : ParserState) × IsViableSizePrefix current parser_state text)
+    ↔ CanBecome (ℕ × Shape) (Represents flags) text
 
 -- the name of the unit spells it if case is significant, whether bytes or bits are preferred, and has no white space at
 -- its ends

@@ -12,7 +12,7 @@ pub record Scan (State Meaning : Type 0) : Type 0 where
   pub flags : Flags
   pub start : State
   pub step : State → ℕ → Option State
-  pub place : State → ParserState
+  pub parser_state : State → ParserState
   pub at_end : State → Result Meaning Fault
 
 -- the state after a text, or `None` if a character of it has no step
@@ -24,4 +24,4 @@ run step s (c ∷ cs) = option_and_then (λ t. run step t cs) (step s c)
 abbrev pub read : {State Meaning : Type 0} → Scan State Meaning → State → List ℕ → Result Meaning Fault
 read scan s [] = scan.at_end s
 read scan s (c ∷ cs) =
-    elim (scan.step s c) [ Some t ↦ read scan t cs | None ↦ Err (fault_at current scan.flags (scan.place s) c) ]
+    elim (scan.step s c) [ Some t ↦ read scan t cs | None ↦ Err (fault_at current scan.flags (scan.parser_state s) c) ]

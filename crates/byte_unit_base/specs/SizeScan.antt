@@ -84,6 +84,6 @@ size_scan flags = record {
   flags = flags;
   start = Beginning;
   step = size_step;
-  place = size_parser_state;
+  parser_state = size_parser_state;
   at_end = size_at_end flags;
 }

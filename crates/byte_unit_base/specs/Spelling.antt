@@ -5,7 +5,7 @@ use Rattle.std.specs.Char.{to_ascii_uppercase}
 use Rattle.std.specs.Str.{str_to_ascii_lowercase}
 use Rattle.byte_unit_base.specs.Shape.{Shape}
 use Rattle.byte_unit_base.specs.Version.{Version}
-pub use Rattle.byte_unit_base.specs.declared.unit.scan.Flags.{Flags}
+pub use Rattle.byte_unit_base.specs.declared.spec.Flags.{Flags}
 
 -- how a unit is read: whether case is ignored, so that `b` means bytes as `B` does, and whether a unit without a suffix
 -- means bytes

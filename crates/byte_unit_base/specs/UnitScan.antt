@@ -146,6 +146,6 @@ unit_scan flags = record {
   flags = flags;
   start = start;
   step = unit_step;
-  place = unit_parser_state;
+  parser_state = unit_parser_state;
   at_end = λ s. unit_at_end (unit_of flags s);
 }

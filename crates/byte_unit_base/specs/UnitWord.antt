@@ -7,10 +7,10 @@ use Rattle.std.specs.Char.{to_ascii_lowercase}
 use Rattle.byte_unit_base.specs.UnitScan.{prefix_at, Multiple, One, Decimal, Binary, UnitScan}
 use Rattle.byte_unit_base.specs.UnitScan.{SuffixPart, Empty, UpperB, LowerB, Bi, Bit, Bits}
 use Rattle.byte_unit_base.specs.ViablePrefix.{ParserState, before_unit, after_prefix, after_b, after_bi, after_bit, after_bits}
-use Rattle.byte_unit_base.specs.declared.unit.scan.Word.{Word}
-use Rattle.byte_unit_base.specs.declared.unit.scan.Word.TheVariants.{Empty as NoLetter, B as LetterB, Bi as LettersBi}
-use Rattle.byte_unit_base.specs.declared.unit.scan.Word.TheVariants.{Bit as LettersBit, Bits as LettersBits}
-use Rattle.byte_unit_base.specs.declared.unit.scan.UnitStop.{UnitStop}
+use Rattle.byte_unit_base.specs.declared.stop.Word.{Word}
+use Rattle.byte_unit_base.specs.declared.stop.Word.TheVariants.{Empty as NoLetter, B as LetterB, Bi as LettersBi}
+use Rattle.byte_unit_base.specs.declared.stop.Word.TheVariants.{Bit as LettersBit, Bits as LettersBits}
+use Rattle.byte_unit_base.specs.declared.stop.UnitStop.{UnitStop}
 
 -- the position of the prefix of a letter, or 0 if it is no prefix letter
 abbrev pub letter_power : ℕ → ℕ

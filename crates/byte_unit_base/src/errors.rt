@@ -4,7 +4,7 @@ ghost use Rattle.std.specs.Prelude.{◌≡◌, ⊤, Some};
 ghost use Rattle.std.specs.Fmt.{DisplaysOnOk};
 ghost use Rattle.byte_unit_base.specs.FaultText.{expected_text, others_text};
 
-use crate::unit::scan::Expected;
+use crate::stop::Expected;
 use byte_unit_math::Decimal;
 use std::alloc::AllocError;
 use std::error::Error;

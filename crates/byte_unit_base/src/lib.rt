@@ -9,12 +9,12 @@ pub use crate::errors::{
 };
 pub use crate::kind::Kind;
 pub use crate::quoted::{MAX_QUOTE_LEN, Quoted, quote};
-pub use crate::read::read_size;
-pub use crate::read::stop::{NumberStop, Reason, Stop, error_at, location_at};
+pub use crate::read::{Measure, read_size, read_text};
+pub use crate::spec::{Flags, ParseSpec};
+pub use crate::stop::{Expected, NumberStop, Reason, Stop, UnitStop, error_at, location_at};
+pub use crate::unit::Unit;
 pub use crate::unit::parse::read_unit_text;
-pub use crate::unit::scan::{Expected, Flags, UnitStop};
 pub use crate::unit::tables::{PREFIXES, prefix_letter, unit_at};
-pub use crate::unit::{Unit, unit_with_prefix};
 
 mod errors;
 mod kind;
@@ -22,4 +22,6 @@ pub mod laws;
 mod quoted;
 mod read;
 pub mod size;
+mod spec;
+mod stop;
 mod unit;

@@ -8,7 +8,7 @@ ghost use Rattle.byte_unit_base.specs.PutAfter.{IsPutAfter};
 ghost use Rattle.byte_unit_base.specs.Quoted.{escape, escape_byte, escape_char, is_unseen, quote};
 ghost use Rattle.byte_unit_base.specs.Quoted.{quoted_len as len_of_quoted};
 
-use crate::read::stop::begins_character;
+use crate::stop::begins_character;
 use std::{fmt, str};
 
 /// The most bytes of a text that a message quotes, so that a message about a long text is short.

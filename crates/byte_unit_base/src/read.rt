@@ -1,23 +1,36 @@
-//! The parser of a number and a unit in a string, and a test that bytes have nothing to trim.
+//! Parses a number and a unit: from bytes that are not trimmed, and then, if that stops, from the trimmed string.
 
-ghost use Rattle.std.specs.Prelude.{◌≡◌, ◌≤◌, IsTrue, length};
-ghost use Rattle.std.specs.Str.{chars};
-ghost use Rattle.byte_unit_base.specs.Spelling.{flags_of};
-ghost use Rattle.byte_unit_base.specs.SizeText.{trim_of};
-ghost use Rattle.byte_unit_base.specs.ParserEnds.{HasVisibleEnds};
+ghost use Rattle.std.specs.Prelude.{◌≡◌, ◌≤◌, length, take, drop, replicate, IfSome, IsTrue, MatchOption};
+ghost use Rattle.byte_unit_base.specs.SizeText.{space, trim_of};
+ghost use Rattle.byte_unit_base.specs.ParserEnds.{IsFirst, IsLineOf, IsNoSpace};
+ghost use Rattle.byte_unit_base.specs.ParserEnds.{IsNumberAndUnitEnd, IsVisibleNext, HasVisibleEnds};
+ghost use Rattle.std.specs.Str.{IsAscii, IsUtf8, chars};
 ghost use Rattle.byte_unit_base.specs.Readings.{IsNumberReading};
+ghost use Rattle.byte_unit_base.specs.SizeReading.{IsNotUtf8};
 ghost use Rattle.byte_unit_base.specs.ErrorPosition.{leading_white};
 ghost use Rattle.byte_unit_base.specs.Outcome.{IsNumberOrStop};
+ghost use Rattle.byte_unit_base.specs.Spelling.{flags_of};
 
-use crate::read::number::read_number_and_unit;
-use crate::read::stop::{Stop, error_at, first_char};
-use crate::unit::scan::Flags;
+use crate::read::digits::read_number;
+use crate::read::unit::read_unit;
+use crate::spec::Flags;
+use crate::stop::{ByteStop, Reason, Stop, error_at, first_ascii, first_char};
 use crate::{ParseError, Unit};
 use byte_unit_math::Decimal;
+use std::str;
 
-pub(crate) mod number;
-pub(crate) mod stop;
-mod value;
+mod digits;
+mod load;
+pub(crate) mod unit;
+
+/// A number of a unit.
+#[derive(Clone, Copy)]
+pub struct Measure {
+    /// The unit.
+    pub unit: Unit,
+    /// The number.
+    pub number: Decimal,
+}
 
 /// Parses a number and a unit from a string. White space at its ends is ignored.
 ///
@@ -50,16 +63,13 @@ pub fn read_size(
 ) -> Result<(Decimal, Unit), ParseError>
     ensures { IsNumberReading (flags_of ignore_case prefer_byte) s.now result }
 {
-    let flags = Flags {
-        ignore_case,
-        prefer_byte,
-    };
+    let flags = Flags::new(ignore_case, prefer_byte);
     let text = trimmed(s);
     let bytes = text.as_bytes();
     match read_number_and_unit::<true>(bytes, bytes, flags) {
-        Ok(found) => Ok((found.1, found.0)),
+        Ok(found) => Ok((found.number, found.unit)),
         Err(stop) => {
-            let next = first_char(&text[stop.place..]);
+            let next = first_char(&text[stop.index..]);
             Err(error_at(stop.reason, next, flags))
         }
     }
@@ -67,12 +77,12 @@ pub fn read_size(
 
 /// Parses a number and a unit as [`read_size`] does, and leaves the error to be made by [`error_at`].
 ///
-/// `read_size` does not call it: a result for both cases would be in memory, for some 10 instructions more per string.
+/// `read_size` does not call it, for the row `parse 1.5 KiB` of docs/SPEED.md.
 ///
 /// # Errors
 /// Returns where the parser stops in the string, and why.
 #[inline(always)]
-pub(crate) fn read_or_stop(s: &str, flags: Flags) -> Result<(Unit, Decimal), Stop>
+pub(crate) fn read_or_stop(s: &str, flags: Flags) -> Result<Measure, Stop<Reason>>
     ensures { IsNumberOrStop flags s.now result }
 {
     let text = trimmed(s);
@@ -81,9 +91,145 @@ pub(crate) fn read_or_stop(s: &str, flags: Flags) -> Result<(Unit, Decimal), Sto
         Ok(found) => Ok(found),
         Err(stop) => Err(Stop {
             reason: stop.reason,
-            next: first_char(&text[stop.place..]),
-            index: leading_len(s) + stop.place,
+            next: first_char(&text[stop.index..]),
+            index: leading_len(s) + stop.index,
         }),
+    }
+}
+
+/// Parses the number and the unit of a size from the string that the bytes are, trimmed. Returns `None` if the bytes
+/// are not UTF-8.
+///
+/// What is accepted as it is, without a test for UTF-8, is ASCII. It starts with a digit, and ends in spaces only after
+/// a number without a unit, where the grammar allows them, so it is the same when trimmed.
+///
+/// # Errors
+/// Returns where the parser stops in the string: [`error_at`] makes the error of it.
+///
+/// # Examples
+/// ```rust
+/// let stopped = read_text(b" 1 Kx ", ParseSpec::BYTES.flags());
+/// assert!(rt; matches!(stopped, Some(Err(Stop { next: Some('x'), index: 4, .. }))));
+/// ```
+#[inline(always)]
+pub fn read_text(bytes: &[u8], flags: Flags) -> Option<Result<Measure, Stop<Reason>>>
+    ensures { MatchOption result (IsNotUtf8 bytes.now)
+        (λ read. IsUtf8 bytes.now × IsNumberOrStop flags bytes.now read) }
+{
+    match read_number_and_unit::<true>(bytes, bytes, flags) {
+        Ok(found) => Some(Ok(found)),
+        Err(stop) => match visible_next(bytes, stop.index) {
+            Some(next) => Some(Err(Stop {
+                reason: stop.reason,
+                next,
+                index: stop.index,
+            })),
+            // Taken apart for the row `parse 1 byte` of docs/SPEED.md.
+            None => match read_string(bytes, flags)? {
+                Ok(found) => Some(Ok(found)),
+                Err(stop) => Some(Err(stop)),
+            },
+        },
+    }
+}
+
+/// Parses as `read_text`, from the string that the bytes are, trimmed.
+#[cold]
+#[inline(never)]
+#[tactic(auto, using(crate::proofs::Computed::test_of_not_utf8))]
+fn read_string(bytes: &[u8], flags: Flags) -> Option<Result<Measure, Stop<Reason>>>
+    ensures { MatchOption result (IsNotUtf8 bytes.now)
+        (λ read. IsUtf8 bytes.now × IsNumberOrStop flags bytes.now read) }
+{
+    let string = str::from_utf8(bytes).ok()?;
+    Some(read_or_stop(string, flags))
+}
+
+/// Parses a number and a unit from a line, which is not trimmed. The line is at the
+/// beginning of `bytes`: eight of them are loaded at once where eight are left, past the end of the line too.
+///
+/// `ALONE` is true if the line is all of `bytes`. The result is the same either way; if it is true, a loop reads the
+/// digits where fewer than eight bytes are left.
+///
+/// # Errors
+/// Returns where it stops.
+#[inline(always)]
+pub fn read_number_and_unit<const ALONE: bool>(
+    line: &[u8],
+    bytes: &[u8],
+    flags: Flags,
+) -> Result<Measure, ByteStop<Reason>>
+    requires { IsLineOf line.now bytes.now }
+    ensures { IsNumberAndUnitEnd flags line.now result }
+{
+    match read_number::<ALONE>(line, bytes) {
+        Ok(found) => {
+            let (end, number) = found;
+            let start = end + leading_spaces(&line[end..]);
+            match read_unit(line, bytes, start, flags) {
+                Ok(unit) => Ok(Measure { unit, number }),
+                Err(stop) => Err(ByteStop {
+                    index: start + stop.index,
+                    reason: Reason::InUnit(stop.reason),
+                }),
+            }
+        }
+        Err(stop) => Err(ByteStop {
+            index: stop.index,
+            reason: Reason::InNumber(stop.reason),
+        }),
+    }
+}
+
+/// Returns the number of leading spaces.
+pub fn leading_spaces(bytes: &[u8]) -> usize
+    ensures bound { result ≤ length bytes.now }
+    ensures spaces { take result bytes.now ≡ replicate result space }
+    ensures all { IsFirst IsNoSpace (drop result bytes.now) }
+{
+    let mut count = 0;
+    'spaces: while count < bytes.len() && bytes[count] == b' ' {
+        count += 1;
+    }
+    count
+}
+
+/// Returns the character at an index, or `Some(None)` at the end, of bytes that have nothing to trim and are ASCII from
+/// there on. Returns `None` if they may not be so.
+#[inline(always)]
+fn visible_next(bytes: &[u8], index: usize) -> Option<Option<char>>
+    requires { index ≤ length bytes.now }
+    ensures { IfSome result (IsVisibleNext bytes.now index) }
+{
+    if has_visible_ends(bytes) && is_ascii_from(bytes, index) {
+        Some(first_ascii(&bytes[index..]))
+    } else {
+        None
+    }
+}
+
+/// Returns what `visible_next` does, by a call of its own for the row `1.5 KiB` of lines in docs/SPEED.md.
+#[cold]
+#[inline(never)]
+pub(crate) fn next_in_line(line: &[u8], index: usize) -> Option<Option<char>>
+    requires { index ≤ length line.now }
+    ensures { IfSome result (IsVisibleNext line.now index) }
+{
+    visible_next(line, index)
+}
+
+/// Returns whether the bytes from an index on are ASCII. If these are at most four, the last four bytes are tested at
+/// once: then it returns `false` also if one of those four is before the index and not ASCII.
+#[inline(always)]
+fn is_ascii_from(bytes: &[u8], from: usize) -> bool
+    requires { from ≤ length bytes.now }
+    ensures { IsTrue result → IsAscii (drop from bytes.now) }
+{
+    let len = bytes.len();
+    if len >= 4 && len - from <= 4 {
+        bytes[len - 4..].is_ascii()
+    } else {
+        bytes[from..].is_ascii()
     }
 }
 

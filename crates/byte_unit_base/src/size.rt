@@ -1,35 +1,29 @@
 //! Sizes of either kind, as numbers below the limit: what the size types have in common.
 
-ghost use Rattle.std.specs.Prelude.{◌≡◌, ℕ, Bool, List, ◌+◌, ◌*◌, ◌<◌, ◌≤◌, SomeIff, IfSome, IfOk, IfErr, IsTrue};
-ghost use Rattle.std.specs.Prelude.{Ok, MatchOption, length, take, drop};
-ghost use Rattle.std.specs.Str.{IsAscii, IsUtf8};
+ghost use Rattle.std.specs.Prelude.{◌≡◌, ℕ, List, ◌+◌, ◌<◌, ◌≤◌, take, ◌*◌, SomeIff, IfSome, IfOk, IfErr, Ok};
 ghost use Rattle.byte_unit_math.specs.Bounds.{size_limit};
 ghost use Rattle.byte_unit_base.specs.Kinds.{bits_in, flags_for};
 ghost use Rattle.byte_unit_base.specs.Readings.{IsNumberReading};
-ghost use Rattle.byte_unit_base.specs.BinaryReading.{unit_meant};
-ghost use Rattle.byte_unit_base.specs.SizeReading.{IsReadingAs, IsBytesReadingAs, IsNotUtf8, without_location};
+ghost use Rattle.byte_unit_base.specs.SizeReading.{IsReadingAs, IsBytesReadingAs, without_location};
 ghost use Rattle.byte_unit_base.specs.Errors.{size_fault};
 ghost use Rattle.byte_unit_base.specs.Expected.{expected_codes, named_in};
-ghost use Rattle.byte_unit_base.specs.Units.{shape_of};
 ghost use Rattle.byte_unit_base.specs.SizeOrNone.{IsSizeOfUnit, IsSizeOfDecimal};
 ghost use Rattle.byte_unit_base.specs.Line.{IsLine};
 ghost use Rattle.byte_unit_base.specs.ErrorPosition.{IsSizePosition, IsSizeLocation, IsLocationOf};
-ghost use Rattle.byte_unit_base.specs.ParserEnds.{IsVisibleNext};
-ghost use Rattle.byte_unit_base.specs.Outcome.{IsNumberOrStop};
-ghost use Rattle.byte_unit_base.specs.Spelling.{Flags};
 ghost use Rattle.byte_unit_base.specs.declared.errors.ParseError.TheVariants.{Value};
 ghost use Rattle.byte_unit_base.specs.declared.errors.ValueParseError.TheVariants.{ExceededBounds};
 
-use crate::read::number::read_number_and_unit;
-use crate::read::stop::{Stop, error_at, expected_at, first_ascii, location_at};
-use crate::read::{has_visible_ends, read_or_stop};
-use crate::unit::scan::{Expected, Flags};
-use crate::{Kind, LocatedError, Location, ParseError, Unit, ValueParseError, read_size};
+use crate::read::{
+    Measure, next_in_line, read_number_and_unit, read_or_stop, read_size, read_text,
+};
+use crate::spec::{Flags, ParseSpec};
+use crate::stop::{Expected, error_at, expected_at, location_at};
+use crate::{Kind, LocatedError, Location, ParseError, Unit, ValueParseError};
 use byte_unit_math::{Decimal, least_size};
 use std::str;
 
 /// The limit of sizes, 10^30, which is 1000 times the largest decimal prefix: the least number that is not a size.
-const SIZE_LIMIT: u128 = 1_000_000_000_000_000_000_000_000_000_000;
+pub const SIZE_LIMIT: u128 = 1_000_000_000_000_000_000_000_000_000_000;
 
 /// Returns the number if it is a size, that is below 10^30. Returns `None` if it is 10^30 or more.
 ///
@@ -100,7 +94,7 @@ pub fn from_decimal(number: Decimal, unit: Unit, kind: Kind) -> Option<u128>
 /// `Kind::Byte`, and in bits for `Kind::Bit`. A suffix `b` means bits and `B` bytes; with `ignore_case` both mean
 /// bytes. For `Kind::Bit` `ignore_case` has no effect.
 ///
-/// With `BINARY` a decimal prefix means the binary one, as many programs write them: `10m`, `128MB` and `1G` are by
+/// With `binary` a decimal prefix means the binary one, as many programs write them: `10m`, `128MB` and `1G` are by
 /// 1024. Only the unit is replaced: the grammar is the same.
 ///
 /// # Errors
@@ -110,20 +104,26 @@ pub fn from_decimal(number: Decimal, unit: Unit, kind: Kind) -> Option<u128>
 ///
 /// # Examples
 /// ```rust
-/// assert_eq!(rt; size::parse::<false>("1.5 KiB", false, Kind::Byte)?, 1536);
-/// assert_eq!(rt; size::parse::<true>("10m", false, Kind::Byte)?, 10_485_760);
-/// assert_eq!(rt; size::parse::<false>("9 bits", false, Kind::Byte)?, 2);
-/// let error = size::parse::<false>("1.", false, Kind::Byte);
+/// assert_eq!(rt; size::parse("1.5 KiB", ParseSpec::BYTES)?, 1536);
+/// assert_eq!(rt; size::parse("10m", ParseSpec::BINARY_BYTES)?, 10_485_760);
+/// assert_eq!(rt; size::parse("9 bits", ParseSpec::BYTES)?, 2);
+/// let error = size::parse("1.", ParseSpec::BYTES);
 /// assert!(rt; matches!(error, Err(ParseError::Value(ValueParseError::NotNumber('.')))));
 /// ```
 #[inline(never)]
-pub fn parse<const BINARY: bool>(s: &str, ignore_case: bool, kind: Kind) -> Result<u128, ParseError>
-    ensures reading { IsReadingAs (unit_meant BINARY) kind ignore_case s.now result }
+pub fn parse(s: &str, spec: ParseSpec) -> Result<u128, ParseError>
+    ensures reading { IsReadingAs spec s.now result }
     ensures bound { IfOk result (λ n. n < size_limit) }
 {
-    let flags = flags_for(kind, ignore_case);
+    let flags = spec.flags();
     match read_size(s, flags.ignore_case, flags.prefer_byte) {
-        Ok(found) => size_of::<BINARY>(found, kind),
+        Ok(found) => size_of(
+            Measure {
+                unit: found.1,
+                number: found.0,
+            },
+            spec,
+        ),
         Err(error) => Err(error),
     }
 }
@@ -135,25 +135,21 @@ pub fn parse<const BINARY: bool>(s: &str, ignore_case: bool, kind: Kind) -> Resu
 ///
 /// # Examples
 /// ```rust
-/// assert!(rt; matches!(size::parse_bytes::<false>(b"1.5 KiB", false, Kind::Byte), Some(Ok(1536))));
-/// assert!(rt; size::parse_bytes::<false>(b"1 KiB\xFF", false, Kind::Byte).is_none());
+/// assert!(rt; matches!(size::parse_bytes(b"1.5 KiB", ParseSpec::BYTES), Some(Ok(1536))));
+/// assert!(rt; size::parse_bytes(b"1 KiB\xFF", ParseSpec::BYTES).is_none());
 /// ```
 #[inline(always)]
-pub fn parse_bytes<const BINARY: bool>(
-    bytes: &[u8],
-    ignore_case: bool,
-    kind: Kind,
-) -> Option<Result<u128, ParseError>>
-    ensures reading { IsBytesReadingAs (unit_meant BINARY) kind ignore_case bytes.now result }
+pub fn parse_bytes(bytes: &[u8], spec: ParseSpec) -> Option<Result<u128, ParseError>>
+    ensures reading { IsBytesReadingAs spec bytes.now result }
     ensures bound { IfSome result (λ answer. IfOk answer (λ n. n < size_limit)) }
 {
-    parse_line::<BINARY>(bytes, bytes.len(), ignore_case, kind)
+    parse_line(bytes, bytes.len(), spec)
 }
 
 /// Parses a size from the line at the beginning of bytes, its first `len` bytes, as [`parse`] does from a string: it is
 /// a number of bytes for `Kind::Byte`, and of bits for `Kind::Bit`. Returns `None` if the line is not UTF-8.
 ///
-/// With `BINARY` a decimal prefix means the binary one. Eight bytes at a time are loaded, past the end of the line too.
+/// With `binary` a decimal prefix means the binary one. Eight bytes at a time are loaded, past the end of the line too.
 ///
 /// Precondition (proved at every call): `len <= bytes.len()`, and the line ends there: the next byte is a line feed, or
 /// there is none.
@@ -163,30 +159,25 @@ pub fn parse_bytes<const BINARY: bool>(
 ///
 /// # Examples
 /// ```rust
-/// assert!(rt; matches!(parse_line::<false>(b"1 KB\n12\n", 4, false, Kind::Byte), Some(Ok(1000))));
-/// assert!(rt; matches!(parse_line::<true>(b"1 KB", 4, false, Kind::Bit), Some(Ok(8192))));
-/// assert!(rt; parse_line::<false>(b"1 KB\xFF", 5, false, Kind::Byte).is_none());
+/// assert!(rt; matches!(parse_line(b"1 KB\n12\n", 4, ParseSpec::BYTES), Some(Ok(1000))));
+/// assert!(rt; matches!(parse_line(b"1 KB", 4, ParseSpec::BINARY_BITS), Some(Ok(8192))));
+/// assert!(rt; parse_line(b"1 KB\xFF", 5, ParseSpec::BYTES).is_none());
 /// ```
 #[inline(always)]
-pub fn parse_line<const BINARY: bool>(
-    bytes: &[u8],
-    len: usize,
-    ignore_case: bool,
-    kind: Kind,
-) -> Option<Result<u128, ParseError>>
+pub fn parse_line(bytes: &[u8], len: usize, spec: ParseSpec) -> Option<Result<u128, ParseError>>
     requires { IsLine bytes.now len }
-    ensures reading { IsBytesReadingAs (unit_meant BINARY) kind ignore_case (take len bytes.now)
+    ensures reading { IsBytesReadingAs spec (take len bytes.now)
         result }
     ensures bound { IfSome result (λ answer. IfOk answer (λ n. n < size_limit)) }
 {
     let line = &bytes[..len];
-    let flags = flags_for(kind, ignore_case);
+    let flags = spec.flags();
     match read_number_and_unit::<false>(line, bytes, flags) {
-        Ok(found) => Some(size_of::<BINARY>((found.1, found.0), kind)),
-        Err(stop) => match next_in_line(line, stop.place) {
-            // Returned here: as one result with that of the call below, LLVM would clear its memory for each line.
+        Ok(found) => Some(size_of(found, spec)),
+        Err(stop) => match next_in_line(line, stop.index) {
+            // Returned here for the row `1.5 KiB` of lines in docs/SPEED.md.
             Some(next) => return Some(Err(error_at(stop.reason, next, flags))),
-            None => parse_text::<BINARY>(line, ignore_case, kind),
+            None => parse_text(line, spec),
         },
     }
 }
@@ -195,106 +186,12 @@ pub fn parse_line<const BINARY: bool>(
 #[cold]
 #[inline(never)]
 #[tactic(auto, using(crate::proofs::Computed::test_of_not_utf8))]
-fn parse_text<const BINARY: bool>(
-    bytes: &[u8],
-    ignore_case: bool,
-    kind: Kind,
-) -> Option<Result<u128, ParseError>>
-    ensures reading { IsBytesReadingAs (unit_meant BINARY) kind ignore_case bytes.now result }
+fn parse_text(bytes: &[u8], spec: ParseSpec) -> Option<Result<u128, ParseError>>
+    ensures reading { IsBytesReadingAs spec bytes.now result }
     ensures bound { IfSome result (λ answer. IfOk answer (λ n. n < size_limit)) }
 {
     let text = str::from_utf8(bytes).ok()?;
-    Some(parse::<BINARY>(text, ignore_case, kind))
-}
-
-/// Returns the character at a place, or `Some(None)` at the end, of bytes that have nothing to trim and are ASCII from
-/// there on. Returns `None` if they may not be so.
-///
-/// `#[inline(always)]`: a call costs a text that is rejected in C some 20 instructions.
-#[inline(always)]
-fn visible_next(bytes: &[u8], place: usize) -> Option<Option<char>>
-    requires { place ≤ length bytes.now }
-    ensures { IfSome result (IsVisibleNext bytes.now place) }
-{
-    if has_visible_ends(bytes) && is_ascii_from(bytes, place) {
-        Some(first_ascii(&bytes[place..]))
-    } else {
-        None
-    }
-}
-
-/// Returns what `visible_next` does, for `parse_line`: with these tests inlined, a line that is accepted takes more
-/// instructions.
-#[cold]
-#[inline(never)]
-fn next_in_line(line: &[u8], place: usize) -> Option<Option<char>>
-    requires { place ≤ length line.now }
-    ensures { IfSome result (IsVisibleNext line.now place) }
-{
-    visible_next(line, place)
-}
-
-/// Returns whether the bytes from an index on are ASCII. If these are at most four, the last four bytes are tested at
-/// once: then it returns `false` also if one of those four is before the index and not ASCII.
-#[inline(always)]
-fn is_ascii_from(bytes: &[u8], from: usize) -> bool
-    requires { from ≤ length bytes.now }
-    ensures { IsTrue result → IsAscii (drop from bytes.now) }
-{
-    let len = bytes.len();
-    if len >= 4 && len - from <= 4 {
-        bytes[len - 4..].is_ascii()
-    } else {
-        bytes[from..].is_ascii()
-    }
-}
-
-/// Parses the number and the unit of a size from the string that the bytes are, trimmed. Returns `None` if the bytes
-/// are not UTF-8.
-///
-/// What is accepted as it is, without a test for UTF-8, is ASCII. It starts with a digit, and ends in spaces only after
-/// a number without a unit, where the grammar allows them, so it is the same when trimmed.
-///
-/// # Errors
-/// Returns where the parser stops in the string: [`error_at`] makes the error of it.
-///
-/// # Examples
-/// ```rust
-/// let stopped = size::read_text(b" 1 Kx ", size::flags_for(Kind::Byte, false));
-/// assert!(rt; matches!(stopped, Some(Err(Stop { next: Some('x'), index: 4, .. }))));
-/// ```
-#[inline(always)]
-pub fn read_text(bytes: &[u8], flags: Flags) -> Option<Result<(Unit, Decimal), Stop>>
-    ensures { MatchOption result (IsNotUtf8 bytes.now)
-        (λ read. IsUtf8 bytes.now × IsNumberOrStop flags bytes.now read) }
-{
-    match read_number_and_unit::<true>(bytes, bytes, flags) {
-        Ok(found) => Some(Ok(found)),
-        Err(stop) => match visible_next(bytes, stop.place) {
-            Some(next) => Some(Err(Stop {
-                reason: stop.reason,
-                next,
-                index: stop.place,
-            })),
-            // Taken apart, so that the results above are not written to memory for that of the call.
-            None => match read_string(bytes, flags)? {
-                Ok(found) => Some(Ok(found)),
-                Err(stop) => Some(Err(stop)),
-            },
-        },
-    }
-}
-
-/// Parses as `read_text`, from the string that the bytes are, trimmed.
-#[cold]
-#[inline(never)]
-#[tactic(auto, using(crate::proofs::Computed::test_of_not_utf8))]
-fn read_string(bytes: &[u8], flags: Flags) -> Option<Result<(Unit, Decimal), Stop>>
-    ensures { MatchOption result (IsNotUtf8 bytes.now)
-        (λ read. IsUtf8 bytes.now × IsNumberOrStop flags bytes.now read) }
-{
-    let string = str::from_utf8(bytes).ok()?;
-    Some(read_or_stop(string, flags))
+    Some(parse(text, spec))
 }
 
 /// Parses a size from bytes, as [`parse_bytes`], for a message: with the location of the error. Returns `None` if the
@@ -305,26 +202,22 @@ fn read_string(bytes: &[u8], flags: Flags) -> Option<Result<(Unit, Decimal), Sto
 ///
 /// # Examples
 /// ```rust
-/// assert!(rt; matches!(size::explain::<false>(b"1 KiB", false, Kind::Byte), Some(Ok(1024))));
-/// let error = size::explain::<false>("1 µB".as_bytes(), false, Kind::Byte);
+/// assert!(rt; matches!(size::explain(b"1 KiB", ParseSpec::BYTES), Some(Ok(1024))));
+/// let error = size::explain("1 µB".as_bytes(), ParseSpec::BYTES);
 /// assert!(rt; matches!(error, Some(Err(LocatedError { location: Location::Character(3), .. }))));
 /// ```
 #[inline(always)]
-pub fn explain<const BINARY: bool>(
-    bytes: &[u8],
-    ignore_case: bool,
-    kind: Kind,
-) -> Option<Result<u128, LocatedError>>
-    ensures reading { IsBytesReadingAs (unit_meant BINARY) kind ignore_case bytes.now
+pub fn explain(bytes: &[u8], spec: ParseSpec) -> Option<Result<u128, LocatedError>>
+    ensures reading { IsBytesReadingAs spec bytes.now
         (without_location result) }
     ensures location { IfSome result (λ answer. IfErr answer (λ e.
         IsLocationOf (IsSizeLocation bytes.now) (size_fault e.error) e.location)) }
     ensures expected { IfSome result (λ answer. IfErr answer (λ e.
         expected_codes e.expected ≡ named_in (size_fault e.error))) }
 {
-    let flags = flags_for(kind, ignore_case);
+    let flags = spec.flags();
     match read_text(bytes, flags) {
-        Some(Ok(found)) => match size_of::<BINARY>((found.1, found.0), kind) {
+        Some(Ok(found)) => match size_of(found, spec) {
             Ok(size) => Some(Ok(size)),
             Err(error) => Some(Err(LocatedError {
                 error,
@@ -363,56 +256,28 @@ pub fn error_position(s: &str) -> Option<usize>
     }
 }
 
-/// Returns the result of parsing a string with this number and this unit: the size of the number in this unit, or with
-/// `BINARY` in its binary unit.
-///
-/// `#[inline(always)]`: a call would return the result through memory.
+/// Returns the result of parsing a string with this number of this unit: the size of the number in the unit that is
+/// meant.
 ///
 /// # Errors
 /// Returns `ExceededBounds` with the number if the size would be 10^30 or more.
 ///
 /// # Examples
 /// ```rust
-/// let found = (Decimal::from_digits(1, 5, 1), Unit::KB);
-/// assert!(rt; matches!(size::size_of::<false>(found, Kind::Byte), Ok(1500)));
-/// assert!(rt; matches!(size::size_of::<true>(found, Kind::Byte), Ok(1536)));
+/// let found = Measure { unit: Unit::KB, number: Decimal::from_digits(1, 5, 1) };
+/// assert!(rt; matches!(size::size_of(found, ParseSpec::BYTES), Ok(1500)));
+/// assert!(rt; matches!(size::size_of(found, ParseSpec::BINARY_BYTES), Ok(1536)));
 /// ```
 #[inline(always)]
-pub fn size_of<const BINARY: bool>(found: (Decimal, Unit), kind: Kind) -> Result<u128, ParseError>
-    ensures reading { (ignore_case : Bool) (bytes : List ℕ)
-        → IsNumberReading (flags_for kind ignore_case) bytes (Ok found)
-        → IsReadingAs (unit_meant BINARY) kind ignore_case bytes result }
+pub fn size_of(found: Measure, spec: ParseSpec) -> Result<u128, ParseError>
+    ensures reading { (bytes : List ℕ)
+        → IsNumberReading (flags_for spec.kind spec.ignore_case) bytes (Ok (found.number, found.unit))
+        → IsReadingAs spec bytes result }
     ensures bound { IfOk result (λ n. n < size_limit) }
-    ensures excess { IfErr result (λ error. error ≡ Value (ExceededBounds found.0)) }
+    ensures excess { IfErr result (λ error. error ≡ Value (ExceededBounds found.number)) }
 {
-    match from_decimal(found.0, unit_meant::<BINARY>(found.1), kind) {
+    match from_decimal(found.number, spec.unit_meant(found.unit), spec.kind) {
         Some(size) => Ok(size),
-        None => Err(ParseError::Value(ValueParseError::ExceededBounds(found.0))),
-    }
-}
-
-/// Returns the unit that a reading takes for a unit that is written: with `BINARY` its binary unit, and else itself.
-#[inline(always)]
-fn unit_meant<const BINARY: bool>(unit: Unit) -> Unit
-    ensures { shape_of result ≡ unit_meant BINARY (shape_of unit) }
-{
-    if BINARY { unit.to_binary() } else { unit }
-}
-
-/// Returns the flags for parsing a size of the kind. For bits `ignore_case` has no effect.
-///
-/// # Examples
-/// ```rust
-/// assert!(rt; size::flags_for(Kind::Byte, true).ignore_case);
-/// assert!(rt; !size::flags_for(Kind::Bit, true).ignore_case);
-/// ```
-#[inline]
-pub fn flags_for(kind: Kind, ignore_case: bool) -> Flags
-    ensures { result ≡ flags_for kind ignore_case }
-{
-    let prefer_byte = matches!(kind, Kind::Byte);
-    Flags {
-        ignore_case: ignore_case && prefer_byte,
-        prefer_byte,
+        None => Err(ParseError::Value(ValueParseError::ExceededBounds(found.number))),
     }
 }

@@ -2,19 +2,16 @@
 
 ghost use Rattle.std.specs.Prelude.{◌≡◌, ◌≤◌};
 ghost use Rattle.byte_unit_math.specs.Bounds.{unit_limit};
-ghost use Rattle.byte_unit_base.specs.Kinds.{counts_bits};
-ghost use Rattle.byte_unit_base.specs.Shape.{bits, shape, twos, fives};
+ghost use Rattle.byte_unit_base.specs.Shape.{bits, twos, fives};
 ghost use Rattle.byte_unit_base.specs.Units.{shape_of};
 ghost use Rattle.byte_unit_base.specs.Version.{unit_name};
-ghost use Rattle.byte_unit_base.specs.BinaryReading.{binary_of};
+ghost use Rattle.byte_unit_base.specs.ParseSpec.{binary_of};
 
-use crate::Kind;
-use crate::read::number::unit_of;
+use crate::read::unit::unit_of;
 use crate::unit::tables::{UNIT_BITS, UNITS};
 use std::fmt;
 
 pub(crate) mod parse;
-pub(crate) mod scan;
 pub(crate) mod tables;
 
 /// A unit of bits or bytes, with a decimal (SI) prefix, with a binary (IEC) prefix, or without one.
@@ -245,23 +242,4 @@ impl fmt::Display for Unit {
     fn fmt<W: fmt::Write>(&self, f: &mut fmt::Formatter<W>) -> fmt::Result {
         f.write_str(self.as_str())
     }
-}
-
-/// Returns the unit of the kind with the binary (IEC) or the decimal (SI) prefix of a position, from 1 for K to 9 for
-/// R.
-///
-/// Precondition (proved at every call): `1 <= power` and `power <= 9`.
-///
-/// # Examples
-/// ```rust
-/// assert_eq!(rt; unit_with_prefix(1, true, Kind::Byte), Unit::KiB);
-/// assert_eq!(rt; unit_with_prefix(9, false, Kind::Bit), Unit::Rbit);
-/// ```
-#[tactic(auto, using(crate::proofs::UnitLetters::shape_of_power))]
-pub fn unit_with_prefix(power: u32, binary: bool, kind: Kind) -> Unit
-    requires positive { 1 ≤ power }
-    requires known { power ≤ 9 }
-    ensures { shape_of result ≡ shape power binary (counts_bits kind) }
-{
-    unit_of(power as usize, binary, matches!(kind, Kind::Bit))
 }

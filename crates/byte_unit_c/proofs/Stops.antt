@@ -1,14 +1,14 @@
 -- What is returned and written where the parser stops in a string.
 use Rattle.std.proofs.Common.{◌≢◌, ℕ, List, Option, Some, Err, refl}
-use Rattle.byte_unit_base.specs.Shape.{Shape}
 use Rattle.byte_unit_base.specs.ErrorPosition.{IsSizePosition}
 use Rattle.byte_unit_base.specs.Fault.{Fault, exceeded, not_number, no_value, too_long, bad_unit}
 use Rattle.byte_unit_base.specs.Kinds.{flags_for}
 use Rattle.byte_unit_base.specs.Outcome.{IsStop}
-use Rattle.byte_unit_base.specs.declared.read.stop.Stop.{Stop}
+use Rattle.byte_unit_base.specs.declared.stop.Reason.{Reason}
+use Rattle.byte_unit_base.specs.declared.stop.Stop.{Stop}
+use Rattle.byte_unit_base.specs.declared.spec.ParseSpec.{ParseSpec}
 use Rattle.byte_unit_base.proofs.SizeOfText.{reading_of_fault}
 use Rattle.byte_unit_c.specs.declared.error.Error.{Error}
-use Rattle.byte_unit_c.specs.declared.flags.ParseFlags.{ParseFlags}
 use Rattle.byte_unit_c.specs.declared.values.Number.{Number}
 use Rattle.byte_unit_c.specs.Error.{IsPositionOf, IsStopWritten}
 use Rattle.byte_unit_c.specs.Parse.{Parses}
@@ -23,13 +23,13 @@ position_of IsPosition too_long position within is = is
 position_of IsPosition (bad_unit c expected may_end) position within is = is
 
 -- the code and the details of the error where the parser stops are those of the string, in each reading
-pub stop_parsed : (meant : Shape → Shape) (asked : ParseFlags) (bytes : List ℕ) (stop : Stop) (code : ℕ) (size : Number)
-    (old new : List Error) → IsStop (flags_for asked.kind asked.ignore_case) bytes stop
-    → IsStopWritten (flags_for asked.kind asked.ignore_case) stop code old new
-    → Parses meant asked bytes code size size old new
-stop_parsed meant asked bytes stop code size old new is (error, error_is, code_is, written) =
+pub stop_parsed : (spec : ParseSpec) (bytes : List ℕ) (stop : Stop Reason) (code : ℕ) (size : Number)
+    (old new : List Error) → IsStop (flags_for spec.kind spec.ignore_case) bytes stop
+    → IsStopWritten (flags_for spec.kind spec.ignore_case) stop code old new
+    → Parses spec bytes code size size old new
+stop_parsed spec bytes stop code size old new is (error, error_is, code_is, written) =
     let reading = is.reading error error_is in (
       Some (Err error),
-      (is.utf8, reading_of_fault meant asked.kind asked.ignore_case bytes error reading),
+      (is.utf8, reading_of_fault spec bytes error reading),
       (code_is, (stop.index, position_of (IsSizePosition bytes) _ stop.index reading.no_bounds is.position, written), refl),
     )

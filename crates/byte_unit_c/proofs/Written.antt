@@ -1,12 +1,11 @@
 -- Two lists that a loop writes.
 use Rattle.std.proofs.Common.{◌≡◌, ◌≢◌, ℕ, ◌+◌, ◌<◌, ℤ, List, length, get_or, set, sym, subst, arith, below_more}
 use Rattle.std.proofs.lemmas.List.{get_or-set_same, get_or-set_other}
-use Rattle.byte_unit_base.specs.Shape.{Shape}
-use Rattle.byte_unit_c.specs.declared.flags.ParseFlags.{ParseFlags}
+use Rattle.byte_unit_base.specs.declared.spec.ParseSpec.{ParseSpec}
 use Rattle.byte_unit_c.specs.declared.values.Number.{Number}
 use Rattle.byte_unit_c.specs.Many.{text_of, IsParsed, AreParsed, zero_number}
 
--- a place below i stays as it is
+-- an element below i stays as it is
 kept : {X Y : Type 0} (P : X → Y → Type 0) (xs : List X) (ys : List Y) (i k : ℕ) (x d : X) (y e : Y) → k < i
     → P (get_or xs k d) (get_or ys k e) → P (get_or (set xs i x) k d) (get_or (set ys i y) k e)
 kept {X} {Y} P xs ys i k x d y e less here =
@@ -15,7 +14,7 @@ kept {X} {Y} P xs ys i k x d y e less here =
     let R : Y → Type 0 = λ w. P (get_or (set xs i x) k d) w in
     subst R (sym (get_or-set_other ys i k y e apart)) (subst L (sym (get_or-set_other xs i k x d apart)) here)
 
--- what holds of the first i places holds of one place more, after that is written
+-- what holds of the first i elements holds of one element more, after that is written
 pub one_more : {X Y : Type 0} (P : ℕ → X → Y → Type 0) (xs : List X) (ys : List Y) (i : ℕ) (x d : X) (y e : Y)
     → i < length xs → i < length ys → P i x y → ((k : ℕ) → k < i → P k (get_or xs k d) (get_or ys k e))
     → (k : ℕ) → k < i + 1 → P k (get_or (set xs i x) k d) (get_or (set ys i y) k e)
@@ -27,13 +26,13 @@ one_more {X} {Y} P xs ys i x d y e in_xs in_ys here below =
     (subst R (sym (get_or-set_same ys i y e in_ys)) (subst L (sym (get_or-set_same xs i x d in_xs)) here))
 
 -- one text more has its code and its size, after these are written
-pub one_more_text : (meant : Shape → Shape) (asked : ParseFlags) (bytes : List ℕ) (offsets : List ℤ) (i : ℕ)
+pub one_more_text : (spec : ParseSpec) (bytes : List ℕ) (offsets : List ℤ) (i : ℕ)
     (codes : List ℕ) (sizes : List Number) (text : List ℕ) (code : ℕ) (size : Number)
     → i < length codes → i < length sizes → text ≡ text_of bytes offsets i
-    → IsParsed meant asked.kind asked.ignore_case text code size
-    → AreParsed meant asked.kind asked.ignore_case bytes offsets i codes sizes
-    → AreParsed meant asked.kind asked.ignore_case bytes offsets (i + 1) (set codes i code) (set sizes i size)
-one_more_text meant asked bytes offsets i codes sizes text code size in_codes in_sizes is parsed below =
-    let P : ℕ → ℕ → Number → Type 0 = λ k. IsParsed meant asked.kind asked.ignore_case (text_of bytes offsets k) in
-    let F : List ℕ → Type 0 = λ text. IsParsed meant asked.kind asked.ignore_case text code size in
+    → IsParsed spec text code size
+    → AreParsed spec bytes offsets i codes sizes
+    → AreParsed spec bytes offsets (i + 1) (set codes i code) (set sizes i size)
+one_more_text spec bytes offsets i codes sizes text code size in_codes in_sizes is parsed below =
+    let P : ℕ → ℕ → Number → Type 0 = λ k. IsParsed spec (text_of bytes offsets k) in
+    let F : List ℕ → Type 0 = λ text. IsParsed spec text code size in
     one_more P codes sizes i code 0 size zero_number in_codes in_sizes (subst F is parsed) below

@@ -5,10 +5,11 @@ use Rattle.byte_unit_base.specs.Fault.{Fault, bad_unit, not_number, no_value, to
 use Rattle.byte_unit_base.specs.Errors.{size_fault, unit_fault}
 use Rattle.byte_unit_base.specs.ParserEnds.{stop_fault, unit_stop_fault}
 use Rattle.byte_unit_base.specs.declared.errors.ParseError.{ParseError}
-use Rattle.byte_unit_base.specs.declared.read.stop.Stop.{Stop}
-use Rattle.byte_unit_base.specs.declared.unit.scan.Flags.{Flags}
+use Rattle.byte_unit_base.specs.declared.stop.Reason.{Reason}
+use Rattle.byte_unit_base.specs.declared.stop.Stop.{Stop}
+use Rattle.byte_unit_base.specs.declared.spec.Flags.{Flags}
 use Rattle.byte_unit_base.specs.declared.errors.UnitParseError.{UnitParseError}
-use Rattle.byte_unit_base.specs.declared.unit.scan.UnitStop.{UnitStop}
+use Rattle.byte_unit_base.specs.declared.stop.UnitStop.{UnitStop}
 use Rattle.byte_unit_c.specs.declared.error.Error.{Error}
 use Rattle.byte_unit_c.specs.Values.{AreDecimalParts}
 
@@ -62,7 +63,7 @@ abbrev pub IsPositionOf : (Option ℕ → Type 0) → Fault → ℕ → Type 0
 IsPositionOf IsPosition (exceeded number) position = position ≡ 0
 IsPositionOf IsPosition _ position = IsPosition (Some position)
 
--- the details of the error, with this position, are written to the first place of the buffer, if it is not empty
+-- the details of the error, with this position, are written to the first element of the buffer, if it is not empty
 abbrev pub IsWrittenAt : ℕ → Fault → List Error → List Error → Type 0
 IsWrittenAt position fault old new =
     (error : Error) × IsErrorOf fault error × (error.position ≡ position) × (new ≡ slice_set old 0 error)
@@ -73,14 +74,13 @@ IsErrorWritten IsPosition fault old new =
     (position : ℕ) × IsPositionOf IsPosition fault position × IsWrittenAt position fault old new
 
 -- Private: the details of the error of a parser that stops here are written with its index, and this is its code
-abbrev pub IsStopWritten : Flags → Stop → ℕ → List Error → List Error → Type 0
+abbrev pub IsStopWritten : Flags → Stop Reason → ℕ → List Error → List Error → Type 0
 IsStopWritten flags stop code old new =
     (error : ParseError) × (size_fault error ≡ stop_fault flags stop.reason stop.next)
     × (code ≡ code_of (size_fault error)) × IsWrittenAt stop.index (size_fault error) old new
 
--- Private: the details of the error of a unit in which a parser stops, by the character there, are written with this
--- position
-abbrev pub IsUnitStopWritten : Flags → UnitStop → Option ℕ → ℕ → List Error → List Error → Type 0
-IsUnitStopWritten flags stop next position old new =
-    (error : UnitParseError) × (unit_fault error ≡ unit_stop_fault flags stop next)
-    × IsWrittenAt position (unit_fault error) old new
+-- Private: the details of the error of a unit in which a parser stops here are written with its index
+abbrev pub IsUnitStopWritten : Flags → Stop UnitStop → List Error → List Error → Type 0
+IsUnitStopWritten flags stop old new =
+    (error : UnitParseError) × (unit_fault error ≡ unit_stop_fault flags stop.reason stop.next)
+    × IsWrittenAt stop.index (unit_fault error) old new

@@ -2,27 +2,35 @@
 -- binary).
 use Rattle.std.specs.Prelude.{ℕ, ◌-◌, ◌==◌, nat_lt, Bool, true, false, if◌then◌else◌, [], ◌∷◌, Option, Some, None}
 use Rattle.std.specs.Prelude.{slice_get}
+use Rattle.std.specs.Option.{option_map}
+use Rattle.byte_unit_base.specs.ParseSpec.{parse_spec}
 use Rattle.byte_unit_base.specs.declared.kind.Kind.{Kind}
 use Rattle.byte_unit_base.specs.declared.kind.Kind.TheVariants.{Byte as InBytes, Bit as InBits}
-use Rattle.byte_unit_c.specs.declared.flags.ParseFlags.{ParseFlags}
+use Rattle.byte_unit_base.specs.declared.spec.ParseSpec.{ParseSpec}
 use Rattle.byte_unit_c.specs.declared.flags.ChoiceFlags.{ChoiceFlags}
 
 -- the kind of sizes: bytes with no flag, bits with the flag 1; `None` with any other flag
 abbrev pub kind_at : ℕ → Option Kind
 kind_at flags = slice_get (InBytes ∷ InBits ∷ []) flags
 
--- how a parsing call parses, by the flags 1 and 2; `None` with any other flag
-abbrev pub parse_flags_at : ℕ → Option ParseFlags
-parse_flags_at flags =
+-- how a parsing call reads a size, by the flags 1 and 2; `None` with any other flag
+abbrev pub parse_spec_at : ℕ → Option ParseSpec
+parse_spec_at flags =
     slice_get
-    (record { kind = InBytes; ignore_case = false } ∷ record { kind = InBits; ignore_case = false }
-    ∷ record { kind = InBytes; ignore_case = true } ∷ record { kind = InBits; ignore_case = true } ∷ [])
+    (parse_spec InBytes false false ∷ parse_spec InBits false false
+    ∷ parse_spec InBytes true false ∷ parse_spec InBits true false ∷ [])
     flags
 
--- how a parsing call parses if decimal prefixes mean binary ones, by the flag 8 and the flags 1 and 2 beside it; `None`
--- without the flag 8, or with any other flag
-abbrev pub binary_flags_at : ℕ → Option ParseFlags
-binary_flags_at flags = if nat_lt flags 8 then None else parse_flags_at (flags - 8)
+-- how a parsing call reads a size if decimal prefixes mean binary ones, by the flag 8 and the flags 1 and 2 beside it;
+-- `None` without the flag 8, or with any other flag
+abbrev pub binary_spec_at : ℕ → Option ParseSpec
+binary_spec_at flags =
+    if nat_lt flags 8 then None
+    else option_map (λ spec. parse_spec spec.kind spec.ignore_case true) (parse_spec_at (flags - 8))
+
+-- how a call reads a size that takes the flag 8 or not
+abbrev pub any_spec_at : ℕ → Option ParseSpec
+any_spec_at flags = if nat_lt flags 8 then parse_spec_at flags else binary_spec_at flags
 
 -- how a unit is chosen, by the flags 1 and 4; `None` with any other flag
 unfoldable pub choice_flags_at : ℕ → Option ChoiceFlags

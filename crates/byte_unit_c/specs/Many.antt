@@ -2,17 +2,14 @@
 use Rattle.std.specs.Prelude.{◌≡◌, ℕ, ◌+◌, ◌-◌, ◌<◌, ℤ, pos, negsuc, ◌≤ℤ◌, Bool, List, [], ◌∷◌, length}
 use Rattle.std.specs.Prelude.{slice_index, slice_index_or, slice_range, Option, Some, None, Result, Ok, Err}
 use Rattle.std.specs.Prelude.{IfSome, IfNone}
-use Rattle.byte_unit_base.specs.Accepted.{as_written}
-use Rattle.byte_unit_base.specs.BinaryReading.{binary_of}
 use Rattle.byte_unit_base.specs.Errors.{size_fault}
-use Rattle.byte_unit_base.specs.Shape.{Shape}
 use Rattle.byte_unit_base.specs.SizeReading.{IsBytesReadingAs}
 use Rattle.byte_unit_base.specs.declared.errors.ParseError.{ParseError}
-use Rattle.byte_unit_base.specs.declared.kind.Kind.{Kind}
+use Rattle.byte_unit_base.specs.declared.spec.ParseSpec.{ParseSpec}
 use Rattle.byte_unit_c.specs.declared.offsets.Offsets.{Offsets}
 use Rattle.byte_unit_c.specs.declared.offsets.Offsets.TheVariants.{Long, Short}
 use Rattle.byte_unit_c.specs.declared.values.Number.{Number}
-use Rattle.byte_unit_c.specs.Flags.{parse_flags_at, binary_flags_at}
+use Rattle.byte_unit_c.specs.Flags.{any_spec_at}
 use Rattle.byte_unit_c.specs.Values.{number_of}
 use Rattle.byte_unit_c.specs.Error.{ok, invalid_argument, code_of, not_utf8}
 
@@ -49,22 +46,21 @@ IsCoded None code size = (code ≡ not_utf8) × (size ≡ 0)
 IsCoded (Some (Ok n)) code size = (code ≡ ok) × (size ≡ n)
 IsCoded (Some (Err e)) code size = (code ≡ code_of (size_fault e)) × (size ≡ 0)
 
--- the code and the size are those of parsing the bytes, where a unit `u` that is read counts as `meant u`
-abbrev pub IsParsed : (Shape → Shape) → Kind → Bool → List ℕ → ℕ → Number → Type 0
-IsParsed meant kind ignore_case bytes code size =
-    (answer : Option (Result ℕ ParseError)) × IsBytesReadingAs meant kind ignore_case bytes answer
+-- the code and the size are those of parsing the bytes so
+abbrev pub IsParsed : ParseSpec → List ℕ → ℕ → Number → Type 0
+IsParsed spec bytes code size =
+    (answer : Option (Result ℕ ParseError)) × IsBytesReadingAs spec bytes answer
     × IsCoded answer code (number_of size)
 
 -- the number zero
 abbrev pub zero_number : Number
 zero_number = record { low = 0; high = 0 }
 
--- each of the first n texts has its code and its size, by the same `meant`
-abbrev pub AreParsed : (Shape → Shape) → Kind → Bool → List ℕ → List ℤ → ℕ → List ℕ → List Number → Type 0
-AreParsed meant kind ignore_case bytes offsets n codes sizes =
+-- each of the first n texts has its code and its size
+abbrev pub AreParsed : ParseSpec → List ℕ → List ℤ → ℕ → List ℕ → List Number → Type 0
+AreParsed spec bytes offsets n codes sizes =
     (i : ℕ) → i < n
-    → IsParsed meant kind ignore_case (text_of bytes offsets i) (slice_index codes i)
-    (slice_index_or sizes i zero_number)
+    → IsParsed spec (text_of bytes offsets i) (slice_index codes i) (slice_index_or sizes i zero_number)
 
 -- the call is rejected: an argument is invalid, and nothing is written
 abbrev pub IsRejectedCall : ℕ → List Number → List Number → List ℕ → List ℕ → Type 0
@@ -74,13 +70,8 @@ IsRejectedCall code sizes sizes' codes codes' = (code ≡ invalid_argument) × (
 pub record AreManyReturned
     (flags : ℕ) (bytes : List ℕ) (offsets : List ℤ) (code : ℕ) (sizes sizes' : List Number) (codes codes' : List ℕ)
     : Type 0 where
-  pub parsed : IfSome (parse_flags_at flags) (λ asked.
-      IsLayout (length bytes) offsets (length sizes) (length codes)
-      → (code ≡ ok) × AreParsed as_written asked.kind asked.ignore_case bytes offsets (length codes) codes' sizes')
-  pub binary : IfSome (binary_flags_at flags) (λ asked.
-      IsLayout (length bytes) offsets (length sizes) (length codes)
-      → (code ≡ ok) × AreParsed binary_of asked.kind asked.ignore_case bytes offsets (length codes) codes' sizes')
-  pub unknown_flag : IfNone (parse_flags_at flags) (IfNone (binary_flags_at flags)
-      (IsRejectedCall code sizes sizes' codes codes'))
+  pub parsed : IfSome (any_spec_at flags) (λ spec. IsLayout (length bytes) offsets (length sizes) (length codes)
+      → (code ≡ ok) × AreParsed spec bytes offsets (length codes) codes' sizes')
+  pub unknown_flag : IfNone (any_spec_at flags) (IsRejectedCall code sizes sizes' codes codes')
   pub no_layout : ¬ IsLayout (length bytes) offsets (length sizes) (length codes)
       → IsRejectedCall code sizes sizes' codes codes'

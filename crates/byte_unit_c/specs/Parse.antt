@@ -8,16 +8,15 @@ use Rattle.byte_unit_base.specs.ErrorPosition.{IsUnitLocation, location_words}
 use Rattle.byte_unit_base.specs.Errors.{size_fault, unit_fault}
 use Rattle.byte_unit_base.specs.FaultText.{located_text}
 use Rattle.byte_unit_base.specs.Readings.{IsUnitReading}
-use Rattle.byte_unit_base.specs.Shape.{Shape}
 use Rattle.byte_unit_base.specs.SizeReading.{IsBytesReadingAs}
 use Rattle.byte_unit_base.specs.Spelling.{flags_of}
 use Rattle.byte_unit_base.specs.declared.errors.Location.{Location}
 use Rattle.byte_unit_base.specs.declared.errors.ParseError.{ParseError}
 use Rattle.byte_unit_base.specs.declared.errors.ParseError.TheVariants.{Unit as UnitError}
 use Rattle.byte_unit_base.specs.declared.errors.UnitParseError.{UnitParseError}
+use Rattle.byte_unit_base.specs.declared.spec.ParseSpec.{ParseSpec}
 use Rattle.byte_unit_base.specs.declared.unit.Unit.{Unit as UnitName}
 use Rattle.byte_unit_format.specs.Written.{WritesForm}
-use Rattle.byte_unit_c.specs.declared.flags.ParseFlags.{ParseFlags}
 use Rattle.byte_unit_c.specs.declared.values.Number.{Number}
 use Rattle.byte_unit_c.specs.declared.error.Error.{Error}
 use Rattle.byte_unit_c.specs.Values.{number_of}
@@ -33,10 +32,10 @@ IsReturned bytes (Some (Err e)) code size size' errors errors' =
     (code ≡ code_of (size_fault e)) × IsErrorWritten (IsSizePosition bytes) (size_fault e) errors errors'
     × (size' ≡ size)
 
--- Private: what a parsing call with these flags returns and writes, where a unit `u` that is read counts as `meant u`
-abbrev pub Parses : (Shape → Shape) → ParseFlags → List ℕ → ℕ → Number → Number → List Error → List Error → Type 0
-Parses meant asked bytes code size size' errors errors' =
-    (answer : Option (Result ℕ ParseError)) × IsBytesReadingAs meant asked.kind asked.ignore_case bytes answer
+-- what a parsing call returns and writes that reads the bytes so
+abbrev pub Parses : ParseSpec → List ℕ → ℕ → Number → Number → List Error → List Error → Type 0
+Parses spec bytes code size size' errors errors' =
+    (answer : Option (Result ℕ ParseError)) × IsBytesReadingAs spec bytes answer
     × IsReturned bytes answer code size size' errors errors'
 
 -- `None` if the bytes are not UTF-8, and otherwise the result of parsing them as a unit
@@ -80,11 +79,10 @@ IsExplanation bytes None old new needed =
 IsExplanation bytes (Some (Ok n)) old new needed = (needed ≡ 0) × (new ≡ old)
 IsExplanation bytes (Some (Err e)) old new needed = IsErrorExplained (IsSizeLocation bytes) e old new needed
 
--- Private: what a call that explains with these flags returns and writes, where a unit `u` that is read counts as
--- `meant u`
-abbrev pub Explains : (Shape → Shape) → ParseFlags → List ℕ → List ℕ → List ℕ → ℕ → Type 0
-Explains meant asked bytes old new needed =
-    (answer : Option (Result ℕ ParseError)) × IsBytesReadingAs meant asked.kind asked.ignore_case bytes answer
+-- what a call that explains returns and writes that reads the bytes so
+abbrev pub Explains : ParseSpec → List ℕ → List ℕ → List ℕ → ℕ → Type 0
+Explains spec bytes old new needed =
+    (answer : Option (Result ℕ ParseError)) × IsBytesReadingAs spec bytes answer
     × IsExplanation bytes answer old new needed
 
 -- the message of the error of a unit, or that the bytes are not UTF-8, of at least one byte; 0, and nothing is written,

@@ -1,16 +1,14 @@
 //! Parsing with the flag `BINARY_PREFIXES`: decimal prefixes mean binary ones.
 //!
-//! The calls without the flag are compiled apart from these, so that it costs them no instruction.
+//! Calls without the flag are apart, for the row `parse 1.5 KiB` of docs/SPEED.md.
 
-ghost use Rattle.std.specs.Prelude.{◌≡◌, ℕ, Option, Result, IfSome, IfNone};
-ghost use Rattle.byte_unit_base.specs.BinaryReading.{IsBinaryBytesReading};
-ghost use Rattle.byte_unit_base.specs.declared.errors.ParseError.{ParseError};
-ghost use Rattle.byte_unit_c.specs.Flags.{binary_flags_at};
+ghost use Rattle.std.specs.Prelude.{◌≡◌, IfSome, IfNone};
+ghost use Rattle.byte_unit_c.specs.Flags.{binary_spec_at};
 ghost use Rattle.byte_unit_c.specs.Error.{invalid_argument};
-ghost use Rattle.byte_unit_c.specs.Parse.{IsReturned};
+ghost use Rattle.byte_unit_c.specs.Parse.{Parses};
 
 use crate::error::{Error, INVALID_ARGUMENT};
-use crate::flags::binary_flags_at;
+use crate::flags::binary_spec_at;
 use crate::parse::parse_as;
 use crate::values::Number;
 
@@ -27,15 +25,13 @@ pub extern "C" fn byte_unit_parse_binary_to(
     size: &mut Number,
     error: &mut [Error],
 ) -> u32
-    ensures reading { IfSome (binary_flags_at flags)
-        (λ asked. (answer : Option (Result ℕ ParseError))
-        × IsBinaryBytesReading asked.kind asked.ignore_case text.now answer
-        × IsReturned text.now answer result size.old size.new error.old error.new) }
-    ensures rejected { IfNone (binary_flags_at flags)
+    ensures reading { IfSome (binary_spec_at flags)
+        (λ spec. Parses spec text.now result size.old size.new error.old error.new) }
+    ensures rejected { IfNone (binary_spec_at flags)
         ((result ≡ invalid_argument) × (size.new ≡ size.old) × (error.new ≡ error.old)) }
 {
-    match binary_flags_at(flags) {
-        Some(asked) => parse_as::<true>(text, asked, size, error),
+    match binary_spec_at(flags) {
+        Some(spec) => parse_as(text, spec, size, error),
         None => INVALID_ARGUMENT,
     }
 }

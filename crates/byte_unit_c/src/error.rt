@@ -1,13 +1,13 @@
 //! The errors of parsing in the C API: a code, and a struct of details.
 
 ghost use Rattle.std.specs.Prelude.{◌≡◌, ℕ, List, slice_set};
-ghost use Rattle.byte_unit_base.specs.Errors.{value_fault};
+ghost use Rattle.byte_unit_base.specs.Errors.{size_fault, value_fault};
 ghost use Rattle.byte_unit_base.specs.Expected.{expected_codes};
 ghost use Rattle.byte_unit_base.specs.Fault.{bad_unit};
 ghost use Rattle.byte_unit_c.specs.Error.{code_of, expected_bytes, IsErrorOf};
 
 use crate::values::DecimalParts;
-use byte_unit_base::{Expected, ValueParseError};
+use byte_unit_base::{Expected, ParseError, ValueParseError};
 
 /// The details of a parse error. A field that the error's code does not use is zero.
 #[repr(C)]
@@ -60,11 +60,10 @@ impl Error {
         position: 0,
     };
 
-    /// Returns the code and the details of an error in the number, at a position.
-    pub fn of_value(error: ValueParseError, position: usize) -> (u32, Error)
-        ensures code { result.0 ≡ code_of (value_fault error) }
-        ensures details { IsErrorOf (value_fault error) result.1 }
-        ensures position { result.1.position ≡ position }
+    /// Returns the details of an error in the number, at a position. Its code is [`value_code`].
+    pub fn of_value(error: ValueParseError, position: usize) -> Error
+        ensures details { IsErrorOf (value_fault error) result }
+        ensures position { result.position ≡ position }
     {
         let base = Error {
             position,
@@ -73,14 +72,14 @@ impl Error {
         match error {
             ValueParseError::ExceededBounds(number) => {
                 let number = DecimalParts::new(number);
-                (EXCEEDED_BOUNDS, Error { number, ..base })
+                Error { number, ..base }
             }
             ValueParseError::NotNumber(c) => {
                 let character = c as u32;
-                (NOT_NUMBER, Error { character, ..base })
+                Error { character, ..base }
             }
-            ValueParseError::NoValue => (NO_VALUE, base),
-            ValueParseError::NumberTooLong => (NUMBER_TOO_LONG, base),
+            ValueParseError::NoValue => base,
+            ValueParseError::NumberTooLong => base,
         }
     }
 
@@ -112,6 +111,28 @@ impl Error {
         if !errors.is_empty() {
             errors[0] = self;
         }
+    }
+}
+
+/// Returns the code of an error.
+pub fn code_of(error: &ParseError) -> u32
+    ensures { result ≡ code_of (size_fault error.now) }
+{
+    match error {
+        ParseError::Value(error) => value_code(error),
+        ParseError::Unit(_) => UNIT,
+    }
+}
+
+/// Returns the code of an error in the number.
+pub fn value_code(error: &ValueParseError) -> u32
+    ensures { result ≡ code_of (value_fault error.now) }
+{
+    match error {
+        ValueParseError::ExceededBounds(_) => EXCEEDED_BOUNDS,
+        ValueParseError::NotNumber(_) => NOT_NUMBER,
+        ValueParseError::NoValue => NO_VALUE,
+        ValueParseError::NumberTooLong => NUMBER_TOO_LONG,
     }
 }
 

@@ -5,20 +5,19 @@ ghost use Rattle.std.specs.Str.{IsUtf8};
 ghost use Rattle.byte_unit_base.specs.Kinds.{flags_for};
 ghost use Rattle.byte_unit_base.specs.Quoted.{quote};
 ghost use Rattle.byte_unit_base.specs.Readings.{IsNumberReading};
-ghost use Rattle.byte_unit_base.specs.SizeReading.{IsBytesReading};
-ghost use Rattle.byte_unit_base.specs.BinaryReading.{unit_meant, IsBinaryBytesReading};
-ghost use Rattle.byte_unit_base.specs.declared.errors.ParseError.{ParseError};
 ghost use Rattle.byte_unit_base.specs.declared.errors.UnitParseError.{UnitParseError};
 ghost use Rattle.byte_unit_base.specs.declared.unit.Unit.{Unit as UnitName};
 ghost use Rattle.byte_unit_format.specs.Written.{WritesForm};
-ghost use Rattle.byte_unit_c.specs.Flags.{parse_flags_at, binary_flags_at, prefers_byte};
-ghost use Rattle.byte_unit_c.specs.Parse.{Explains, IsUnitBytesReading, IsExplanation, IsUnitExplanation};
+ghost use Rattle.byte_unit_c.specs.Flags.{parse_spec_at, any_spec_at, prefers_byte};
+ghost use Rattle.byte_unit_c.specs.Parse.{Explains, IsUnitBytesReading, IsUnitExplanation};
 
-use crate::flags::{ParseFlags, binary_flags_at, parse_flags_at};
+use crate::flags::{any_spec_at, parse_spec_at};
 use crate::message::write_message;
 use crate::parse::{read_unit, unit_flags};
 use crate::texts::write;
-use byte_unit_base::{LocatedError, MAX_QUOTE_LEN, ParseError, location_at, quote, size};
+use byte_unit_base::{
+    LocatedError, MAX_QUOTE_LEN, ParseError, ParseSpec, location_at, quote, size,
+};
 
 /// Writes the error message for a string that is rejected to the start of `out`, and returns its length, at most 256
 /// bytes. Returns the length and writes nothing if `out` is shorter. Returns 0 if and only if all flags are known and
@@ -32,34 +31,24 @@ use byte_unit_base::{LocatedError, MAX_QUOTE_LEN, ParseError, location_at, quote
 /// For example, `-1` gives 47, the length of `the character '-' is not a number (character 1)`.
 #[unsafe(no_mangle)]
 pub extern "C" fn byte_unit_explain(text: &[u8], flags: u32, out: &mut [u8]) -> usize
-    ensures reading { IfSome (parse_flags_at flags)
-        (λ asked. (answer : Option (Result ℕ ParseError))
-        × IsBytesReading asked.kind asked.ignore_case text.now answer
-        × IsExplanation text.now answer out.old out.new result) }
-    ensures binary { IfSome (binary_flags_at flags)
-        (λ asked. (answer : Option (Result ℕ ParseError))
-        × IsBinaryBytesReading asked.kind asked.ignore_case text.now answer
-        × IsExplanation text.now answer out.old out.new result) }
-    ensures unknown_flag { IfNone (parse_flags_at flags) (IfNone (binary_flags_at flags)
-        (WritesForm (λ words. words ≡ codes "a flag is unknown") out.old out.new result)) }
+    ensures reading { IfSome (any_spec_at flags) (λ spec. Explains spec text.now out.old out.new result) }
+    ensures unknown_flag { IfNone (any_spec_at flags)
+        (WritesForm (λ words. words ≡ codes "a flag is unknown") out.old out.new result) }
     ensures bound { result ≤ 256 }
 {
-    match parse_flags_at(flags) {
-        Some(asked) => explain_as::<false>(text, asked, out),
-        None => match binary_flags_at(flags) {
-            Some(asked) => explain_as::<true>(text, asked, out),
-            None => write(b"a flag is unknown", out),
-        },
+    match any_spec_at(flags) {
+        Some(spec) => explain_as(text, spec, out),
+        None => write(b"a flag is unknown", out),
     }
 }
 
-/// Explains as `byte_unit_explain` does, with known flags. With `BINARY` a decimal prefix means the binary one.
-fn explain_as<const BINARY: bool>(text: &[u8], asked: ParseFlags, out: &mut [u8]) -> usize
-    ensures reading { Explains (unit_meant BINARY) asked text.now out.old out.new result }
+/// Explains as `byte_unit_explain` does, with known flags.
+fn explain_as(text: &[u8], spec: ParseSpec, out: &mut [u8]) -> usize
+    ensures reading { Explains spec text.now out.old out.new result }
     ensures bound { result ≤ 256 }
 {
-    // By reference: the error is large, and would be copied.
-    match &size::explain::<BINARY>(text, asked.ignore_case, asked.kind) {
+    // By reference, for the row `explain 1 byte` of docs/SPEED.md.
+    match &size::explain(text, spec) {
         Some(Ok(_)) => 0,
         Some(Err(error)) => write_message(error, out),
         None => write(b"the text is not UTF-8", out),
@@ -76,36 +65,35 @@ fn explain_as<const BINARY: bool>(text: &[u8], asked: ParseFlags, out: &mut [u8]
 /// `the character 'x' is incorrect ('B' or 'b' or no character is expected) (character 2)`.
 #[unsafe(no_mangle)]
 pub extern "C" fn byte_unit_explain_unit(text: &[u8], flags: u32, out: &mut [u8]) -> usize
-    ensures reading { IfSome (parse_flags_at flags)
-        (λ asked. (answer : Option (Result UnitName UnitParseError))
-        × IsUnitBytesReading asked.ignore_case (prefers_byte asked.kind) text.now answer
+    ensures reading { IfSome (parse_spec_at flags)
+        (λ spec. (answer : Option (Result UnitName UnitParseError))
+        × IsUnitBytesReading spec.ignore_case (prefers_byte spec.kind) text.now answer
         × IsUnitExplanation text.now answer out.old out.new result) }
-    ensures unknown_flag { IfNone (parse_flags_at flags)
+    ensures unknown_flag { IfNone (parse_spec_at flags)
         (WritesForm (λ words. words ≡ codes "a flag is unknown") out.old out.new result) }
     ensures bound { result ≤ 256 }
 {
-    match parse_flags_at(flags) {
-        Some(asked) => explain_unit_as(text, asked, out),
+    match parse_spec_at(flags) {
+        Some(spec) => explain_unit_as(text, spec, out),
         None => write(b"a flag is unknown", out),
     }
 }
 
 /// Explains as `byte_unit_explain_unit` does, with known flags.
-fn explain_unit_as(text: &[u8], asked: ParseFlags, out: &mut [u8]) -> usize
+fn explain_unit_as(text: &[u8], spec: ParseSpec, out: &mut [u8]) -> usize
     ensures reading { (answer : Option (Result UnitName UnitParseError))
-        × IsUnitBytesReading asked.ignore_case (prefers_byte asked.kind) text.now answer
+        × IsUnitBytesReading spec.ignore_case (prefers_byte spec.kind) text.now answer
         × IsUnitExplanation text.now answer out.old out.new result }
     ensures bound { result ≤ 256 }
 {
-    let flags = unit_flags(asked);
+    let flags = unit_flags(spec);
     match read_unit(text, flags) {
         Some(Ok(_)) => 0,
-        Some(Err(stopped)) => {
-            let (stop, next, position) = stopped;
+        Some(Err(stop)) => {
             let error = LocatedError {
-                error: ParseError::Unit(stop.error_before(next, flags)),
-                expected: stop.expected_before(next, flags),
-                location: location_at(text, position, next),
+                error: ParseError::Unit(stop.reason.error_before(stop.next, flags)),
+                expected: stop.reason.expected_before(stop.next, flags),
+                location: location_at(text, stop.index, stop.next),
             };
             write_message(&error, out)
         }

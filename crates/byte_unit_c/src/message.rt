@@ -24,8 +24,8 @@ const END: &[u8] = b" (at the end of the text)";
 /// Writes the message of an error, and after it its location, to the start of `out` if they fit, and returns their
 /// length, at most 256 bytes.
 ///
-/// Most messages are known but for a character and its number. They are not put together by a `Formatter`, which takes
-/// five times as long.
+/// Most messages are known but for a character and its number, and are put together without a `Formatter`, for the row
+/// `explain 1 byte` of docs/SPEED.md.
 ///
 /// Precondition (proved at every call): `error.expected` is what the error names as expected.
 pub fn write_message(error: &LocatedError, out: &mut [u8]) -> usize
@@ -40,7 +40,7 @@ pub fn write_message(error: &LocatedError, out: &mut [u8]) -> usize
     }
 }
 
-/// Writes a message as `write_message` does, by its `Display`. Not inlined, since its memory would be cleared first.
+/// Writes a message as `write_message` does, by its `Display`.
 #[cold]
 #[inline(never)]
 fn write_formatted(error: &LocatedError, out: &mut [u8]) -> usize

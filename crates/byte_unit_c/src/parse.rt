@@ -2,28 +2,25 @@
 
 ghost use Rattle.std.specs.Prelude.{◌≡◌, ℕ, List, Option, Some, Result, Ok, IfSome, IfNone, MatchOption};
 ghost use Rattle.std.specs.Str.{IsUtf8};
-ghost use Rattle.byte_unit_base.specs.BinaryReading.{unit_meant};
 ghost use Rattle.byte_unit_base.specs.Errors.{value_fault};
 ghost use Rattle.byte_unit_base.specs.Kinds.{flags_for};
 ghost use Rattle.byte_unit_base.specs.Outcome.{IsUnitOrStop};
 ghost use Rattle.byte_unit_base.specs.Readings.{IsNumberReading};
-ghost use Rattle.byte_unit_base.specs.SizeReading.{IsBytesReading};
 ghost use Rattle.byte_unit_base.specs.Spelling.{flags_of};
-ghost use Rattle.byte_unit_base.specs.declared.errors.ParseError.{ParseError};
 ghost use Rattle.byte_unit_base.specs.declared.errors.UnitParseError.{UnitParseError};
 ghost use Rattle.byte_unit_base.specs.declared.unit.Unit.{Unit as UnitName};
-ghost use Rattle.byte_unit_c.specs.Flags.{parse_flags_at, prefers_byte};
+ghost use Rattle.byte_unit_c.specs.Flags.{parse_spec_at, prefers_byte};
 ghost use Rattle.byte_unit_c.specs.Error.{invalid_argument, code_of, IsWrittenAt, IsStopWritten, IsUnitStopWritten};
-ghost use Rattle.byte_unit_c.specs.Parse.{IsReturned, IsUnitBytesReading, IsUnitReturned, Parses};
+ghost use Rattle.byte_unit_c.specs.Parse.{IsUnitBytesReading, IsUnitReturned, Parses};
 
 use crate::codes::unit_code;
-use crate::error::{Error, INVALID_ARGUMENT, NOT_UTF8, OK, UNIT, bytes_of};
-use crate::flags::{ParseFlags, parse_flags_at};
+use crate::error::{Error, INVALID_ARGUMENT, NOT_UTF8, OK, UNIT, bytes_of, value_code};
+use crate::flags::parse_spec_at;
 use crate::values::Number;
 use byte_unit_base::{
-    Flags, Kind, Reason, Stop, Unit, UnitStop, ValueParseError, read_unit_text, size,
+    Flags, Kind, Measure, ParseSpec, Reason, Stop, Unit, UnitStop, ValueParseError, read_text,
+    read_unit_text, size,
 };
-use byte_unit_math::Decimal;
 use std::str;
 
 /// Parses a size, rounded up to the next whole byte, or to the next whole bit with the flag `BITS` (1). Sizes are below
@@ -42,34 +39,25 @@ pub extern "C" fn byte_unit_parse_to(
     size: &mut Number,
     error: &mut [Error],
 ) -> u32
-    ensures reading { IfSome (parse_flags_at flags)
-        (λ asked. (answer : Option (Result ℕ ParseError))
-        × IsBytesReading asked.kind asked.ignore_case text.now answer
-        × IsReturned text.now answer result size.old size.new error.old error.new) }
-    ensures rejected { IfNone (parse_flags_at flags)
+    ensures reading { IfSome (parse_spec_at flags)
+        (λ spec. Parses spec text.now result size.old size.new error.old error.new) }
+    ensures rejected { IfNone (parse_spec_at flags)
         ((result ≡ invalid_argument) × (size.new ≡ size.old) × (error.new ≡ error.old)) }
 {
-    match parse_flags_at(flags) {
-        Some(asked) => parse_as::<false>(text, asked, size, error),
+    match parse_spec_at(flags) {
+        Some(spec) => parse_as(text, spec, size, error),
         None => INVALID_ARGUMENT,
     }
 }
 
-/// Parses as `byte_unit_parse_to` does, with known flags. With `BINARY` a decimal prefix means the binary one: a call
-/// without it takes no instruction more for it.
+/// Parses as `byte_unit_parse_to` does, with known flags.
 #[inline(always)]
-pub fn parse_as<const BINARY: bool>(
-    text: &[u8],
-    asked: ParseFlags,
-    size: &mut Number,
-    errors: &mut [Error],
-) -> u32
-    ensures { Parses (unit_meant BINARY) asked text.now result size.old size.new errors.old
-        errors.new }
+pub fn parse_as(text: &[u8], spec: ParseSpec, size: &mut Number, errors: &mut [Error]) -> u32
+    ensures { Parses spec text.now result size.old size.new errors.old errors.new }
 {
-    let flags = size::flags_for(asked.kind, asked.ignore_case);
-    match size::read_text(text, flags) {
-        Some(Ok(found)) => write_size::<BINARY>(found, asked, size, errors),
+    let flags = spec.flags();
+    match read_text(text, flags) {
+        Some(Ok(found)) => write_size(found, spec, size, errors),
         Some(Err(stop)) => write_stop(stop, flags, errors),
         None => NOT_UTF8,
     }
@@ -77,39 +65,36 @@ pub fn parse_as<const BINARY: bool>(
 
 /// Writes the size of a string with this unit and this number, or the details of the error that it is too large, and
 /// returns the code.
-///
-/// `#[inline(always)]`: the size is then never in memory before it is written.
 #[inline(always)]
-fn write_size<const BINARY: bool>(
-    found: (Unit, Decimal),
-    asked: ParseFlags,
-    size: &mut Number,
-    errors: &mut [Error],
-) -> u32
+fn write_size(found: Measure, spec: ParseSpec, size: &mut Number, errors: &mut [Error]) -> u32
     ensures { (bytes : List ℕ) → IsUtf8 bytes
-        → IsNumberReading (flags_for asked.kind asked.ignore_case) bytes (Ok (found.1, found.0))
-        → Parses (unit_meant BINARY) asked bytes result size.old size.new errors.old errors.new }
+        → IsNumberReading (flags_for spec.kind spec.ignore_case) bytes (Ok (found.number, found.unit))
+        → Parses spec bytes result size.old size.new errors.old errors.new }
 {
-    match size::size_of::<BINARY>((found.1, found.0), asked.kind) {
+    let number = found.number;
+    match size::size_of(found, spec) {
         Ok(in_kind) => {
             *size = Number::new(in_kind);
             OK
         }
-        Err(_) => write_value(ValueParseError::ExceededBounds(found.1), 0, errors),
+        Err(_) => write_value(ValueParseError::ExceededBounds(number), 0, errors),
     }
 }
 
 /// Writes the details of the error of a string in which the parser stops here, and returns its code.
-///
-/// `#[inline(always)]`: the error of a unit, whose parts are written, is then never in memory.
 #[inline(always)]
-fn write_stop(stop: Stop, flags: Flags, errors: &mut [Error]) -> u32
+fn write_stop(stop: Stop<Reason>, flags: Flags, errors: &mut [Error]) -> u32
     ensures { IsStopWritten flags stop result errors.old errors.new }
 {
     match stop.reason {
         Reason::InNumber(reason) => write_value(reason.error_before(stop.next), stop.index, errors),
         Reason::InUnit(reason) => {
-            write_unit_stop(reason, stop.next, flags, stop.index, errors);
+            let stop = Stop {
+                reason,
+                next: stop.next,
+                index: stop.index,
+            };
+            write_unit_stop(stop, flags, errors);
             UNIT
         }
     }
@@ -121,26 +106,20 @@ fn write_value(error: ValueParseError, position: usize, errors: &mut [Error]) ->
     ensures code { result ≡ code_of (value_fault error) }
     ensures written { IsWrittenAt position (value_fault error) errors.old errors.new }
 {
-    let (code, details) = Error::of_value(error, position);
-    details.write(errors);
+    let code = value_code(&error);
+    Error::of_value(error, position).write(errors);
     code
 }
 
-/// Writes the error of a parser of a unit that stops at this place, by the character there.
+/// Writes the error of a string in which the parser of a unit stops here.
 #[inline(always)]
-fn write_unit_stop(
-    stop: UnitStop,
-    next: Option<char>,
-    flags: Flags,
-    place: usize,
-    errors: &mut [Error],
-)
-    ensures { IsUnitStopWritten flags stop next place errors.old errors.new }
+fn write_unit_stop(stop: Stop<UnitStop>, flags: Flags, errors: &mut [Error])
+    ensures { IsUnitStopWritten flags stop errors.old errors.new }
 {
-    let expected = bytes_of(stop.expected_before(next, flags));
-    let error = stop.error_before(next, flags);
+    let expected = bytes_of(stop.reason.expected_before(stop.next, flags));
+    let error = stop.reason.error_before(stop.next, flags);
     let may_end = error.also_expect_no_character;
-    Error::of_unit_parts(error.character, expected, may_end, place).write(errors);
+    Error::of_unit_parts(error.character, expected, may_end, stop.index).write(errors);
 }
 
 /// Parses a unit by one of its spellings, as `Unit::parse_str` does, and writes its code to `unit`. A spelling without
@@ -159,34 +138,33 @@ pub extern "C" fn byte_unit_parse_unit_to(
     unit: &mut u32,
     error: &mut [Error],
 ) -> u32
-    ensures reading { IfSome (parse_flags_at flags)
-        (λ asked. (answer : Option (Result UnitName UnitParseError))
-        × IsUnitBytesReading asked.ignore_case (prefers_byte asked.kind) text.now answer
+    ensures reading { IfSome (parse_spec_at flags)
+        (λ spec. (answer : Option (Result UnitName UnitParseError))
+        × IsUnitBytesReading spec.ignore_case (prefers_byte spec.kind) text.now answer
         × IsUnitReturned text.now answer result unit.old unit.new error.old error.new) }
-    ensures rejected { IfNone (parse_flags_at flags)
+    ensures rejected { IfNone (parse_spec_at flags)
         ((result ≡ invalid_argument) × (unit.new ≡ unit.old) × (error.new ≡ error.old)) }
 {
-    match parse_flags_at(flags) {
-        Some(asked) => parse_unit_as(text, asked, unit, error),
+    match parse_spec_at(flags) {
+        Some(spec) => parse_unit_as(text, spec, unit, error),
         None => INVALID_ARGUMENT,
     }
 }
 
 /// Parses as `byte_unit_parse_unit_to` does, with known flags.
-fn parse_unit_as(text: &[u8], asked: ParseFlags, unit: &mut u32, errors: &mut [Error]) -> u32
+fn parse_unit_as(text: &[u8], spec: ParseSpec, unit: &mut u32, errors: &mut [Error]) -> u32
     ensures { (answer : Option (Result UnitName UnitParseError))
-        × IsUnitBytesReading asked.ignore_case (prefers_byte asked.kind) text.now answer
+        × IsUnitBytesReading spec.ignore_case (prefers_byte spec.kind) text.now answer
         × IsUnitReturned text.now answer result unit.old unit.new errors.old errors.new }
 {
-    let flags = unit_flags(asked);
+    let flags = unit_flags(spec);
     match read_unit(text, flags) {
         Some(Ok(found)) => {
             *unit = unit_code(found);
             OK
         }
-        Some(Err(stopped)) => {
-            let (stop, next, position) = stopped;
-            write_unit_stop(stop, next, flags, position, errors);
+        Some(Err(stop)) => {
+            write_unit_stop(stop, flags, errors);
             UNIT
         }
         None => NOT_UTF8,
@@ -195,10 +173,7 @@ fn parse_unit_as(text: &[u8], asked: ParseFlags, unit: &mut u32, errors: &mut [E
 
 /// Parses a unit from bytes, as `read_unit_text` does from a string. Returns `None` if the bytes are not UTF-8.
 #[inline(always)]
-pub(crate) fn read_unit(
-    bytes: &[u8],
-    flags: Flags,
-) -> Option<Result<Unit, (UnitStop, Option<char>, usize)>>
+pub(crate) fn read_unit(bytes: &[u8], flags: Flags) -> Option<Result<Unit, Stop<UnitStop>>>
     ensures { MatchOption result (¬ IsUtf8 bytes.now)
         (λ read. IsUtf8 bytes.now × IsUnitOrStop flags bytes.now read) }
 {
@@ -209,15 +184,8 @@ pub(crate) fn read_unit(
 }
 
 /// Returns the flags for parsing a unit: one with no suffix is of the kind of sizes.
-pub(crate) fn unit_flags(asked: ParseFlags) -> Flags
-    ensures { result ≡ flags_of asked.ignore_case (prefers_byte asked.kind) }
+pub(crate) fn unit_flags(spec: ParseSpec) -> Flags
+    ensures { result ≡ flags_of spec.ignore_case (prefers_byte spec.kind) }
 {
-    let prefer_byte = match asked.kind {
-        Kind::Byte => true,
-        Kind::Bit => false,
-    };
-    Flags {
-        ignore_case: asked.ignore_case,
-        prefer_byte,
-    }
+    Flags::new(spec.ignore_case, matches!(spec.kind, Kind::Byte))
 }

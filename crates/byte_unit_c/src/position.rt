@@ -52,8 +52,8 @@ fn write_position(found: Option<usize>, position: &mut usize) -> bool
     ensures unchanged { result ≡ false → position.new ≡ position.old }
 {
     match found {
-        Some(place) => {
-            *position = place;
+        Some(index) => {
+            *position = index;
             true
         }
         None => false,

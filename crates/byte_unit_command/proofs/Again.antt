@@ -1,27 +1,28 @@
 -- Lemmas: what is formatted can be read again.
 use Rattle.std.proofs.Common.{◌≡◌, ◌≢◌, ℕ, ◌<◌, Bool, true, false, true≢false, nat_lt, if◌then◌else◌, List, ◌++◌}
 use Rattle.std.proofs.Common.{Option, refl, sym, ap, subst, ◌∙◌}
-use Rattle.byte_unit.specs.BinaryReading.{binary_of}
+use Rattle.byte_unit.specs.Accepted.{IsAcceptedAs}
 use Rattle.byte_unit.specs.BinaryString.{has_binary_prefix}
 use Rattle.byte_unit.specs.Bounds.{size_limit}
 use Rattle.byte_unit.specs.Choice.{IsRecoveredIn}
 use Rattle.byte_unit.specs.FormLaws.{SizeFormReadsBack, PlainFormReadsBack, SizeHasOneForm}
 use Rattle.byte_unit.specs.Forms.{IsText, places_of}
 use Rattle.byte_unit.specs.NamedSpecs.{plain_spec}
+use Rattle.byte_unit.specs.ParseSpec.{parse_spec}
 use Rattle.byte_unit.specs.Shape.{Shape, shape}
 use Rattle.byte_unit.specs.Units.{shape_of}
 use Rattle.byte_unit.specs.Version.{current}
 use Rattle.byte_unit.specs.declared.Kind.{Kind}
 use Rattle.byte_unit.specs.declared.Sign.TheVariants.{Unset, Plus}
+use Rattle.byte_unit_base.proofs.SizeOrFault.{accepted_or_refused}
 use Rattle.byte_unit_format.proofs.ReadBack.{accepted_as, digits_accepted, form_is_size}
 use Rattle.byte_unit_format.proofs.WrittenForms.{recovered_unit_unique}
 use Rattle.byte_unit_command.specs.Field.{without_suffix}
 use Rattle.byte_unit_command.specs.Laws.{IsLossless, FormattedSizesAreRead, ExactTwiceIsOnce}
-use Rattle.byte_unit_command.specs.Prefixes.{IsAcceptedBy}
 use Rattle.byte_unit_command.specs.Formatted.{IsExactText, IsFormText, exact_spec, padded}
 use Rattle.byte_unit_command.specs.declared.options.Form.{Form}
 use Rattle.byte_unit_command.specs.declared.options.Form.TheVariants.{Exact, Plain, InUnit, NumberOf, Largest}
-use Rattle.byte_unit_command.proofs.Readings.{sizes_or_not}
+use Rattle.byte_unit_command.proofs.Readings.{same_spec}
 use Rattle.byte_unit_command.proofs.Suffixes.{without_it}
 use Rattle.byte_unit_command.proofs.Texts.{padded-none}
 
@@ -40,16 +41,16 @@ module _ (exact : SizeFormReadsBack) (digits : PlainFormReadsBack) (kind : Kind)
     (ignore_case : Bool) (below : size < size_limit) where
   -- digits are parsed as the size, whatever prefixes mean
   digits_are_read : (reads : Bool) (text : List ℕ) → IsText kind size plain_spec text
-      → IsAcceptedBy reads kind ignore_case text size
+      → IsAcceptedAs (parse_spec kind ignore_case reads) current text size
   digits_are_read true text is_text = rw is_text
-      (digits_accepted binary_of kind ignore_case size plain_spec refl below unset_is_not_plus)
+      (digits_accepted (parse_spec kind ignore_case true) size plain_spec refl below unset_is_not_plus)
   digits_are_read false text is_text = rw is_text (digits kind size plain_spec ignore_case below unset_is_not_plus)
 
   -- a text in a unit with a binary prefix is parsed as the size, whatever prefixes mean
   binary_is_read : (reads : Bool) (text : List ℕ) (form : IsText kind size (exact_spec precision) text)
-      → has_binary_prefix form.unit ≡ true → IsAcceptedBy reads kind ignore_case text size
+      → has_binary_prefix form.unit ≡ true → IsAcceptedAs (parse_spec kind ignore_case reads) current text size
   binary_is_read true text form prefix =
-      accepted_as binary_of kind ignore_case text form.number size form.unit
+      accepted_as (parse_spec kind ignore_case true) text form.number size form.unit
       (by_power (nat_lt 0 form.unit.power) form.unit prefix)
       (form_is_size kind size (exact_spec precision) ignore_case text below form) form.number_is below
   binary_is_read false text form prefix = exact kind size (exact_spec precision) ignore_case text below form
@@ -60,7 +61,7 @@ module _ (exact : SizeFormReadsBack) (digits : PlainFormReadsBack) (kind : Kind)
       → IsRecoveredIn current kind false size (places_of precision) unit → (is_binary : Bool)
       → has_binary_prefix unit ≡ is_binary
       → IsText kind size (if is_binary then exact_spec precision else plain_spec) text
-      → IsAcceptedBy reads kind ignore_case text size
+      → IsAcceptedAs (parse_spec kind ignore_case reads) current text size
   by_prefix reads text unit recovered true prefix form =
       let same = recovered_unit_unique current kind size (places_of precision) form.unit unit form.is_recovered
       recovered in
@@ -69,7 +70,7 @@ module _ (exact : SizeFormReadsBack) (digits : PlainFormReadsBack) (kind : Kind)
 
   -- an exact text is parsed as the size, unless prefixes are read otherwise than it was written for
   exact_is_read : (reads binary : Bool) (text : List ℕ) → (reads ≡ true → binary ≡ true)
-      → IsExactText binary kind precision size text → IsAcceptedBy reads kind ignore_case text size
+      → IsExactText binary kind precision size text → IsAcceptedAs (parse_spec kind ignore_case reads) current text size
   exact_is_read reads true text same (unit, recovered, is_text) =
       by_prefix reads text (shape_of unit) recovered (has_binary_prefix (shape_of unit)) refl is_text
   exact_is_read true false text same is_text = absurd (true≢false (sym (same refl)))
@@ -77,7 +78,7 @@ module _ (exact : SizeFormReadsBack) (digits : PlainFormReadsBack) (kind : Kind)
 
   -- a text in a lossless form is parsed as its size
   form_is_read : (form : Form) (reads binary : Bool) (text : List ℕ) → IsLossless form → (reads ≡ true → binary ≡ true)
-      → IsFormText binary kind form precision size text → IsAcceptedBy reads kind ignore_case text size
+      → IsFormText binary kind form precision size text → IsAcceptedAs (parse_spec kind ignore_case reads) current text size
   form_is_read Exact reads binary text lossless same is_text = exact_is_read reads binary text same is_text
   form_is_read Plain reads binary text lossless same is_text = digits_are_read reads text is_text
   form_is_read (InUnit unit) reads binary text lossless same is_text = absurd lossless
@@ -93,12 +94,12 @@ formatted_is_read exact digits =
     let is : without_suffix others.suffix.now text ≡ form =
     ap (λ suffix. without_suffix suffix text) same_suffix
     ∙ (ap (without_suffix suffix) formatted ∙ without_it form suffix) in
-    let ignore_case = others.ignore_case in
-    let at = form_is_read exact digits options.kind options.precision size ignore_case below options.form others.binary
-    options.binary form lossless prefixes is_form in
-    let Accepts : List ℕ → Type 0 = λ text. IsAcceptedBy others.binary options.kind ignore_case text size in
+    let reading = parse_spec options.spec.kind others.spec.ignore_case others.spec.binary in
+    let at = form_is_read exact digits options.spec.kind options.precision size others.spec.ignore_case below options.form
+    others.spec.binary options.spec.binary form lossless prefixes is_form in
     let text = without_suffix others.suffix.now text in
-    subst (λ kind. IsAcceptedBy others.binary kind ignore_case text size) (sym same_kind) (subst Accepts (sym is) at)
+    subst (λ reading. IsAcceptedAs reading current text size) (same_spec others.spec _ _ same_kind refl)
+    (subst (λ text. IsAcceptedAs reading current text size) (sym is) at)
 
 -- a size has one text with a unit or as digits
 one_text : SizeHasOneForm → (kind : Kind) (precision : Option ℕ) (size : ℕ) (text other : List ℕ) (is_binary : Bool)
@@ -125,12 +126,12 @@ one_exact one_form true kind precision size text other (unit, recovered, is_text
 pub exact_again : FormattedSizesAreRead → SizeHasOneForm → ExactTwiceIsOnce
 exact_again formatted_read one_form =
     λ options size text below exact no_width formatted again text_again read (form_again, is_again, again_is).
-    let kind = options.kind in
-    let binary = options.binary in
+    let kind = options.spec.kind in
+    let binary = options.spec.binary in
     let precision = options.precision in
     let lossless : IsLossless options.form = subst IsLossless (sym exact) tt in
     let accepted = formatted_read options options size text below lossless no_width refl refl (λ yes. yes) formatted in
-    let answer = sizes_or_not binary kind options.ignore_case (without_suffix options.suffix.now text) in
+    let answer = accepted_or_refused options.spec (without_suffix options.suffix.now text) in
     let same : again ≡ size = answer.one_meaning again size read accepted in
     let form = formatted.0 in
     let is_form : IsExactText binary kind precision size form =

@@ -2,6 +2,7 @@
 use Rattle.std.specs.Prelude.{◌≡◌, ℕ, ◌≤◌, ⊤, ◌⊎◌, Bool, true, false, if◌then◌else◌, List, [], Option, None, Some}
 use Rattle.std.specs.Prelude.{MatchOption, option_map, unwrap_or, is_some, codes}
 use Rattle.std.specs.Borrow.{Bor}
+use Rattle.byte_unit.specs.ParseSpec.{parse_spec}
 use Rattle.byte_unit.specs.declared.UnitType.TheVariants.{Binary}
 use Rattle.byte_unit_command.specs.Meaning.{IsFrom, IsOutputForm, MeansNothing}
 use Rattle.byte_unit_command.specs.Meaning.{IsForm, IsNoForm, IsDelimiter, IsPadding}
@@ -42,9 +43,9 @@ IsSeparator values separator =
 -- the options of a call with these values and fields. Operands are records that end with a zero byte, and none of them
 -- is a header
 pub record AreOptions (values : Values) (ranges : List FieldRange) (options : Options) : Type 0 where
-  pub kind : options.kind ≡ values.kind
-  pub ignore_case : options.ignore_case ≡ values.ignore_case
-  pub binary : IsFrom (text_of values.from) options.binary
+  pub kind : options.spec.kind ≡ values.kind
+  pub ignore_case : options.spec.ignore_case ≡ values.ignore_case
+  pub binary : IsFrom (text_of values.from) options.spec.binary
   pub form : (given : Form) × IsFormOf values given × IsOutputForm values.no_unit given options.form
   pub suffix : options.suffix.now ≡ unwrap_or (text_of values.suffix) []
   pub precision : options.precision ≡ precision_of values.human_readable values.precision
@@ -56,8 +57,8 @@ pub record AreOptions (values : Values) (ranges : List FieldRange) (options : Op
   pub header : options.header ≡ (if values.has_operands then 0 else unwrap_or values.header 0)
   pub invalid : IsMode (text_of values.invalid) options.invalid
   pub total : options.total ≡ values.total
-  pub max : IsLimit options.binary values.kind values.ignore_case (text_of values.max) options.max
-  pub min : IsLimit options.binary values.kind values.ignore_case (text_of values.min) options.min
+  pub max : IsLimit options.spec (text_of values.max) options.max
+  pub min : IsLimit options.spec (text_of values.min) options.min
 
 -- the option with this name has this value, which is wrong
 abbrev pub IsWrongOf : List ℕ → Option (Bor (List ℕ)) → (List ℕ → ValueError → Type 0) → Wrong → Type 0
@@ -133,6 +134,6 @@ IsFirstWrong values fields wrong =
     (IsPadding (text_of values.padding))
     (λ _. OrLater (IsWrongOf (codes "--invalid") values.invalid (MeansNothing IsMode Mode) wrong)
     (IsMode (text_of values.invalid))
-    (λ _. OrLater (IsWrongOf (codes "--max") values.max (IsNoLimit binary values.kind values.ignore_case) wrong)
-    (IsLimit binary values.kind values.ignore_case (text_of values.max))
-    (λ _. IsWrongOf (codes "--min") values.min (IsNoLimit binary values.kind values.ignore_case) wrong))))))))
+    (λ _. OrLater (IsWrongOf (codes "--max") values.max (IsNoLimit (parse_spec values.kind values.ignore_case binary)) wrong)
+    (IsLimit (parse_spec values.kind values.ignore_case binary) (text_of values.max))
+    (λ _. IsWrongOf (codes "--min") values.min (IsNoLimit (parse_spec values.kind values.ignore_case binary)) wrong))))))))

@@ -3,9 +3,14 @@ use Rattle.std.specs.Prelude.{◌≡◌, ℕ, ◌-◌, ◌⊎◌, Bool, nat_eq, 
 use Rattle.std.specs.Prelude.{take, Option}
 use Rattle.std.specs.List.{ends_with}
 use Rattle.std.specs.Str.{IsUtf8, is_utf8, trim_end}
+use Rattle.byte_unit.specs.Accepted.{IsAcceptedAs, IsRejectedAs}
+use Rattle.byte_unit.specs.ErrorPosition.{IsLocationOf, IsSizeLocation}
+use Rattle.byte_unit.specs.Errors.{size_fault}
 use Rattle.byte_unit.specs.Fault.{Fault}
+use Rattle.byte_unit.specs.Version.{current}
+use Rattle.byte_unit.specs.declared.ParseSpec.{ParseSpec}
+use Rattle.byte_unit_base.specs.declared.errors.LocatedError.{LocatedError}
 use Rattle.byte_unit_command.specs.Fields.{gap_of, columns_in}
-use Rattle.byte_unit_command.specs.Prefixes.{IsAcceptedBy, IsRejectedBy}
 use Rattle.byte_unit_command.specs.Formatted.{IsFormatted}
 use Rattle.byte_unit_command.specs.declared.options.Options.{Options}
 
@@ -30,24 +35,29 @@ without_suffix (c ∷ cs) text =
     else (if has_suffix suffix (before_space text) then before_suffix suffix (before_space text) else text)
 
 -- the text is a size
-abbrev pub IsSizeBy : Options → List ℕ → ℕ → Type 0
-IsSizeBy options text size =
-    IsUtf8 text × IsAcceptedBy options.binary options.kind options.ignore_case text size
+abbrev pub IsSizeBy : ParseSpec → List ℕ → ℕ → Type 0
+IsSizeBy spec text size = IsUtf8 text × IsAcceptedAs spec current text size
 
 -- the field is a size, without the suffix of the options if it ends with that
 abbrev pub IsSize : Options → List ℕ → ℕ → Type 0
-IsSize options field = IsSizeBy options (without_suffix options.suffix.now field)
+IsSize options field = IsSizeBy options.spec (without_suffix options.suffix.now field)
 
 -- the text is not a size: it is not UTF-8, or it is rejected
-abbrev pub IsNoSizeBy : Options → List ℕ → Type 0
-IsNoSizeBy options text =
+abbrev pub IsNoSizeBy : ParseSpec → List ℕ → Type 0
+IsNoSizeBy spec text =
     ¬ IsUtf8 text
     ⊎ IsUtf8 text
-    × ((fault : Fault) × IsRejectedBy options.binary options.kind options.ignore_case text fault)
+    × ((fault : Fault) × IsRejectedAs spec current text fault)
 
 -- the field, without the suffix of the options, is not a size
 abbrev pub IsNoSize : Options → List ℕ → Type 0
-IsNoSize options field = IsNoSizeBy options (without_suffix options.suffix.now field)
+IsNoSize options field = IsNoSizeBy options.spec (without_suffix options.suffix.now field)
+
+-- the text is rejected with this error, at its location
+abbrev pub IsSizeError : ParseSpec → List ℕ → LocatedError → Type 0
+IsSizeError spec text e =
+    IsRejectedAs spec current text (size_fault e.error)
+    × IsLocationOf (IsSizeLocation text) (size_fault e.error) e.location
 
 -- what is found in a field that is to be converted: its size, or `None` if it is not a size
 abbrev pub Found : Type 0

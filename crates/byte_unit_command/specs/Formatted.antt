@@ -54,7 +54,7 @@ padded width align_left text =
 -- the text that is written for a size
 abbrev pub IsFormatted : Options → ℕ → List ℕ → Type 0
 IsFormatted options size text =
-    (form : List ℕ) × IsFormText options.binary options.kind options.form options.precision size form
+    (form : List ℕ) × IsFormText options.spec.binary options.spec.kind options.form options.precision size form
     × (text ≡ padded options.width options.align_left (form ++ options.suffix.now))
 
 -- the first `len` of these bytes are a text for which this holds

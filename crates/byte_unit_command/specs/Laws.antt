@@ -1,8 +1,9 @@
 -- Laws of the texts of sizes: what is formatted can be read again; and of totals.
 use Rattle.std.specs.Prelude.{◌≡◌, ℕ, ◌+◌, ◌*◌, ◌<◌, ⊤, true, min, List, ◌++◌, replicate, Some}
+use Rattle.byte_unit.specs.Accepted.{IsAcceptedAs}
 use Rattle.byte_unit.specs.Bounds.{size_limit}
+use Rattle.byte_unit.specs.Version.{current}
 use Rattle.byte_unit_command.specs.Field.{Found, without_suffix}
-use Rattle.byte_unit_command.specs.Prefixes.{IsAcceptedBy}
 use Rattle.byte_unit_command.specs.Formatted.{IsFormatted}
 use Rattle.byte_unit_command.specs.Sums.{tally_of}
 use Rattle.byte_unit_command.specs.declared.options.Form.{Form}
@@ -20,7 +21,7 @@ IsLossless (Largest unit_type) = ⊥
 -- the text is parsed as this size by a run with these options
 abbrev pub IsReadAs : Options → List ℕ → ℕ → Type 0
 IsReadAs options text size =
-    IsAcceptedBy options.binary options.kind options.ignore_case (without_suffix options.suffix.now text) size
+    IsAcceptedAs options.spec current (without_suffix options.suffix.now text) size
 
 -- law: a size formatted in the exact form or as digits, without padding, is parsed as that size by a run with
 -- any options of the same kind and suffix, unless decimal prefixes mean binary ones in that run alone. So nothing is
@@ -28,8 +29,8 @@ IsReadAs options text size =
 abbrev pub FormattedSizesAreRead : Type 0
 FormattedSizesAreRead =
     (options others : Options) (size : ℕ) (text : List ℕ) → size < size_limit → IsLossless options.form
-    → options.width ≡ 0 → others.kind ≡ options.kind → others.suffix.now ≡ options.suffix.now
-    → (others.binary ≡ true → options.binary ≡ true) → IsFormatted options size text → IsReadAs others text size
+    → options.width ≡ 0 → others.spec.kind ≡ options.spec.kind → others.suffix.now ≡ options.suffix.now
+    → (others.spec.binary ≡ true → options.spec.binary ≡ true) → IsFormatted options size text → IsReadAs others text size
 
 -- law: if a size formatted in the exact form, without padding, is parsed and formatted so once more, the text is the
 -- same. So a second run of `--to=exact` changes nothing, whatever prefixes mean

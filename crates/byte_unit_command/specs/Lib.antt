@@ -12,7 +12,6 @@ pub mod Converted
 pub mod CallEnds
 pub mod Run
 pub mod Formatted
-pub mod Prefixes
 pub mod Positive
 pub mod FieldList
 pub mod Values

@@ -2,6 +2,7 @@
 -- given.
 use Rattle.std.specs.Prelude.{◌≡◌, ◌≢◌, ℕ, ◌<◌, ◌^◌, ◌⊎◌, Bool, true, false, List, [], ◌∷◌, Option, None, Some, codes}
 use Rattle.std.specs.Str.{trim}
+use Rattle.byte_unit.specs.Accepted.{IsAcceptedAs}
 use Rattle.byte_unit.specs.Errors.{unit_fault}
 use Rattle.byte_unit.specs.Fault.{IsUnitFault}
 use Rattle.byte_unit.specs.Kinds.{flags_for}
@@ -10,10 +11,11 @@ use Rattle.byte_unit.specs.Spelling.{Spells}
 use Rattle.byte_unit.specs.Units.{shape_of}
 use Rattle.byte_unit.specs.Version.{current}
 use Rattle.byte_unit.specs.declared.Kind.{Kind}
+use Rattle.byte_unit.specs.declared.ParseSpec.{ParseSpec}
 use Rattle.byte_unit.specs.declared.Unit.{Unit as UnitName}
 use Rattle.byte_unit.specs.declared.UnitType.TheVariants.{Decimal, Binary, Both}
 use Rattle.byte_unit_command.specs.Positive.{IsPositive}
-use Rattle.byte_unit_command.specs.Prefixes.{IsAcceptedBy, IsSizeError}
+use Rattle.byte_unit_command.specs.Field.{IsSizeError}
 use Rattle.byte_unit_command.specs.declared.meaning.Padding.{Padding}
 use Rattle.byte_unit_command.specs.declared.options.Form.{Form}
 use Rattle.byte_unit_command.specs.declared.options.Form.TheVariants.{Exact, Plain, InUnit, NumberOf, Largest}
@@ -100,13 +102,12 @@ IsMode (Some text) invalid =
     ⊎ ((text ≡ codes "warn") × (invalid ≡ Warn) ⊎ (text ≡ codes "ignore") × (invalid ≡ Ignore)))
 
 -- `--max` and `--min`: a size, as in an input
-abbrev pub IsLimit : Bool → Kind → Bool → Option (List ℕ) → Option ℕ → Type 0
-IsLimit binary kind ignore_case None limit = limit ≡ None
-IsLimit binary kind ignore_case (Some text) limit =
-    (size : ℕ) × IsAcceptedBy binary kind ignore_case text size × (limit ≡ Some size)
+abbrev pub IsLimit : ParseSpec → Option (List ℕ) → Option ℕ → Type 0
+IsLimit spec None limit = limit ≡ None
+IsLimit spec (Some text) limit =
+    (size : ℕ) × IsAcceptedAs spec current text size × (limit ≡ Some size)
 
 -- the text is no value of `--max` and `--min`, for this reason
-abbrev pub IsNoLimit : Bool → Kind → Bool → List ℕ → ValueError → Type 0
-IsNoLimit binary kind ignore_case text (Size error) =
-    IsSizeError binary kind ignore_case text error
-IsNoLimit binary kind ignore_case text _ = ⊥
+abbrev pub IsNoLimit : ParseSpec → List ℕ → ValueError → Type 0
+IsNoLimit spec text (Size error) = IsSizeError spec text error
+IsNoLimit spec text _ = ⊥

@@ -7,8 +7,7 @@ use Rattle.byte_unit.specs.ErrorPosition.{location_words}
 use Rattle.byte_unit.specs.FaultText.{parse_text}
 use Rattle.byte_unit_base.specs.Quoted.{quote}
 use Rattle.byte_unit_base.specs.declared.errors.LocatedError.{LocatedError}
-use Rattle.byte_unit_command.specs.Field.{without_suffix}
-use Rattle.byte_unit_command.specs.Prefixes.{IsSizeError}
+use Rattle.byte_unit_command.specs.Field.{IsSizeError, without_suffix}
 use Rattle.byte_unit_command.specs.State.{Context}
 use Rattle.byte_unit_command.specs.Sums.{is_above, is_below}
 use Rattle.byte_unit_command.specs.declared.notice.FieldError.{FieldError}
@@ -71,7 +70,7 @@ abbrev pub IsFieldError : Options → List ℕ → FieldError → Type 0
 IsFieldError options field NotUtf8 = ¬ IsUtf8 (without_suffix options.suffix.now field)
 IsFieldError options field (Rejected e) =
     let text = without_suffix options.suffix.now field in
-    IsUtf8 text × IsSizeError options.binary options.kind options.ignore_case text e
+    IsUtf8 text × IsSizeError options.spec text e
 IsFieldError options field _ = ⊥
 
 -- whether rejected fields are told

@@ -14,10 +14,10 @@ ghost use Rattle.byte_unit_command.specs.declared.meaning.Padding.{Padding};
 ghost use Rattle.byte_unit_command.specs.declared.options.FieldRange.{FieldRange};
 
 use crate::field_list::{FieldList, positive_of};
-use crate::options::{Form, Invalid, Kind, Options, Separator, Unit, UnitType};
-use crate::size::explain;
+use crate::options::{Form, Invalid, Kind, Options, ParseSpec, Separator, Unit, UnitType};
 use crate::values::Values;
 use crate::wrong::{ValueError, Wrong};
+use byte_unit_base::size;
 use byte_unit_math::DECIMAL_PLACES;
 
 /// The value of `--padding`.
@@ -43,7 +43,6 @@ pub fn options_of<'a>(
         × (ranges_of fields.entry ≡ Some ranges) × AreOptions values.now ranges options) }
     ensures err { IfErr result (IsFirstWrong values.now fields.entry) }
 {
-    let kind = values.kind;
     let binary = from_of(values.from)?;
     let given = form_of(values)?;
     let form = output_form(values.no_unit, given)?;
@@ -51,14 +50,17 @@ pub fn options_of<'a>(
     let fields = listed(values, fields)?;
     let padding = padding_of(values.padding)?;
     let invalid = invalid_of(values.invalid)?;
-    let max = limit_of("--max", values.max, binary, kind, values.ignore_case)?;
-    let min = limit_of("--min", values.min, binary, kind, values.ignore_case)?;
+    let spec = ParseSpec {
+        kind: values.kind,
+        ignore_case: values.ignore_case,
+        binary,
+    };
+    let max = limit_of("--max", values.max, spec)?;
+    let min = limit_of("--min", values.min, spec)?;
     let header = values.header.unwrap_or(0);
     let output_end = if values.zero_terminated { 0 } else { b'\n' };
     Ok(Options {
-        kind,
-        ignore_case: values.ignore_case,
-        binary,
+        spec,
         form,
         precision: match values.precision {
             Some(precision) => Some(precision),
@@ -328,18 +330,15 @@ fn invalid_of(value: Option<&str>) -> Result<Invalid, Wrong<'_>>
 fn limit_of<'a>(
     option: &'static str,
     value: Option<&'a str>,
-    binary: bool,
-    kind: Kind,
-    ignore_case: bool,
+    spec: ParseSpec,
 ) -> Result<Option<u128>, Wrong<'a>>
-    ensures ok { IfOk result (IsLimit binary kind ignore_case (text_of value.entry)) }
-    ensures err { IfErr result
-        (IsWrongOf option.entry.now value.entry (IsNoLimit binary kind ignore_case)) }
+    ensures ok { IfOk result (IsLimit spec (text_of value.entry)) }
+    ensures err { IfErr result (IsWrongOf option.entry.now value.entry (IsNoLimit spec)) }
 {
     let Some(value) = value else {
         return Ok(None);
     };
-    match explain(binary, kind, ignore_case, value.as_bytes()) {
+    match size::explain(value.as_bytes(), spec) {
         Some(Ok(size)) => Ok(Some(size)),
         Some(Err(error)) => Err(wrong(option, value, ValueError::Size(error))),
         // Never: a string is UTF-8.

@@ -10,8 +10,8 @@ ghost use Rattle.byte_unit_command.specs.CallEnds.{messages_of, context_of};
 ghost use Rattle.byte_unit_stream.specs.Beginnings.{IsBeginningOf};
 
 use crate::options::{Invalid, Options};
-use crate::size::{explain, without_suffix};
-use byte_unit_base::{LocatedError, Quoted};
+use crate::size::without_suffix;
+use byte_unit_base::{LocatedError, Quoted, size};
 use std::alloc::{AllocError, Allocator};
 use std::fmt::Write;
 
@@ -94,7 +94,7 @@ fn reason_of(options: &Options, field: &[u8]) -> FieldError
     ensures { IsFieldError options.now field.now result }
 {
     let text = without_suffix(options.suffix, field);
-    match explain(options.binary, options.kind, options.ignore_case, text) {
+    match size::explain(text, options.spec) {
         Some(Err(error)) => FieldError::Rejected(error),
         // Never: a field that is parsed as a size is one.
         Some(Ok(_)) => FieldError::NotUtf8,

@@ -1,49 +1,22 @@
 //! Reads one size of either kind.
 
-ghost use Rattle.std.specs.Prelude.{◌≡◌, ◌<◌, ◌≤◌, false, IfSome, IfNone, IfOk, IfErr};
+ghost use Rattle.std.specs.Prelude.{◌≡◌, ◌<◌, ◌≤◌, false, IfSome, IfNone, IfOk};
 ghost use Rattle.byte_unit.specs.Bounds.{size_limit};
-ghost use Rattle.byte_unit.specs.ErrorPosition.{IsLocationOf, IsSizeLocation};
-ghost use Rattle.byte_unit.specs.Errors.{size_fault};
-ghost use Rattle.byte_unit.specs.SizeReading.{without_location};
+ghost use Rattle.byte_unit.specs.SizeReading.{IsBytesReadingAs};
 ghost use Rattle.byte_unit_command.specs.Field.{IsSize, IsNoSize, IsSizeBy, IsNoSizeBy};
 ghost use Rattle.byte_unit_command.specs.Field.{before_space, without_suffix};
-ghost use Rattle.byte_unit_command.specs.Prefixes.{IsBytesReadingBy};
 
-use crate::options::{Kind, Options};
+use crate::options::{Kind, Options, ParseSpec};
 use byte_unit::ParseError;
-use byte_unit_base::{LocatedError, size};
+use byte_unit_base::size;
 
-/// Parses a field, without the suffix of the options, as a size of their kind. Returns `None` if it is not UTF-8.
+/// Parses a field, without the suffix of the options, as a size. Returns `None` if it is not UTF-8.
 pub(crate) fn parse(options: &Options, field: &[u8]) -> Option<Result<u128, ParseError>>
-    ensures reading { IsBytesReadingBy options.now.binary options.now.kind options.now.ignore_case
+    ensures reading { IsBytesReadingAs options.now.spec
         (without_suffix options.now.suffix.now field.now) result }
     ensures bound { IfSome result (λ answer. IfOk answer (λ size. size < size_limit)) }
 {
-    let text = without_suffix(options.suffix, field);
-    if options.binary {
-        size::parse_bytes::<true>(text, options.ignore_case, options.kind)
-    } else {
-        size::parse_bytes::<false>(text, options.ignore_case, options.kind)
-    }
-}
-
-/// Parses a size of a kind, for a message: with the location of the error. A decimal prefix means the binary one if
-/// `binary` is set. Returns `None` if the text is not UTF-8.
-pub(crate) fn explain(
-    binary: bool,
-    kind: Kind,
-    ignore_case: bool,
-    text: &[u8],
-) -> Option<Result<u128, LocatedError>>
-    ensures reading { IsBytesReadingBy binary kind ignore_case text.now (without_location result) }
-    ensures location { IfSome result (λ answer. IfErr answer (λ e.
-        IsLocationOf (IsSizeLocation text.now) (size_fault e.error) e.location)) }
-{
-    if binary {
-        size::explain::<true>(text, ignore_case, kind)
-    } else {
-        size::explain::<false>(text, ignore_case, kind)
-    }
+    size::parse_bytes(without_suffix(options.suffix, field), options.spec)
 }
 
 /// Returns the text before the suffix, after which there may be white space, or the text itself if it does not end with
@@ -86,7 +59,7 @@ pub(crate) fn accepted(options: &Options, field: &[u8]) -> Option<u128>
     ensures some { IfSome result (IsSize options.now field.now) }
     ensures none { IfNone result (IsNoSize options.now field.now) }
 {
-    let size = if options.suffix.is_empty() && !options.binary {
+    let size = if options.suffix.is_empty() && !options.spec.binary {
         plain_size(options, field)
     } else {
         special_size(options, field)
@@ -99,17 +72,18 @@ pub(crate) fn accepted(options: &Options, field: &[u8]) -> Option<u128>
 /// Precondition (proved at every call): the options read prefixes as they are.
 #[inline(never)]
 fn plain_size(options: &Options, text: &[u8]) -> u128
-    requires { options.now.binary ≡ false }
-    ensures some { result < NO_SIZE → IsSizeBy options.now text.now result }
-    ensures none { NO_SIZE ≤ result → IsNoSizeBy options.now text.now }
+    requires { options.now.spec.binary ≡ false }
+    ensures some { result < NO_SIZE → IsSizeBy options.now.spec text.now result }
+    ensures none { NO_SIZE ≤ result → IsNoSizeBy options.now.spec text.now }
 {
-    match options.kind {
-        Kind::Byte => match size::parse_bytes::<false>(text, options.ignore_case, Kind::Byte) {
+    let ignore_case = options.spec.ignore_case;
+    match options.spec.kind {
+        Kind::Byte => match size::parse_bytes(text, ParseSpec::BYTES.ignoring_case(ignore_case)) {
             Some(Ok(size)) => size,
             Some(Err(_)) => NO_SIZE,
             None => NO_SIZE,
         },
-        Kind::Bit => match size::parse_bytes::<false>(text, options.ignore_case, Kind::Bit) {
+        Kind::Bit => match size::parse_bytes(text, ParseSpec::BITS.ignoring_case(ignore_case)) {
             Some(Ok(size)) => size,
             Some(Err(_)) => NO_SIZE,
             None => NO_SIZE,

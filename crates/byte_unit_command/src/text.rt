@@ -122,11 +122,11 @@ fn write_size(options: &Options, size: u128, out: &mut [u8]) -> usize
     requires bound { size < size_limit }
     requires capacity { text_limit ≤ length out.old }
     ensures written { BeginsWithForm
-        (IsFormText options.now.binary options.now.kind options.now.form options.now.precision size)
+        (IsFormText options.now.spec.binary options.now.spec.kind options.now.form options.now.precision size)
         out.new result }
     ensures bound { result < text_limit }
 {
-    match options.kind {
+    match options.spec.kind {
         Kind::Byte => write_as::<false>(options, size, out),
         Kind::Bit => write_as::<true>(options, size, out),
     }
@@ -141,13 +141,13 @@ fn write_as<const BITS: bool>(options: &Options, size: u128, out: &mut [u8]) -> 
     requires bound { size < size_limit }
     requires capacity { text_limit ≤ length out.old }
     ensures written { BeginsWithForm
-        (IsFormText options.now.binary (kind_by_flag BITS) options.now.form options.now.precision size)
+        (IsFormText options.now.spec.binary (kind_by_flag BITS) options.now.form options.now.precision size)
         out.new result }
     ensures bound { result < text_limit }
 {
     let kind = kind_by_flag(BITS);
     match options.form {
-        Form::Exact if options.binary => {
+        Form::Exact if options.spec.binary => {
             let spec = binary_spec(size, kind, options.precision);
             write_text(size, kind, spec, out)
         }

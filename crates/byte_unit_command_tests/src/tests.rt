@@ -4,7 +4,7 @@ mod uses;
 
 use byte_unit_command::error::RunError;
 use byte_unit_command::field_list::{FieldList, fields_of};
-use byte_unit_command::options::{Form, Invalid, Kind, Options};
+use byte_unit_command::options::{Form, Invalid, Options, ParseSpec};
 use byte_unit_command::run::{RunBuffers, run_with_buffers};
 use byte_unit_command::streams::Streams;
 use byte_unit_command::tally::Tally;
@@ -22,9 +22,7 @@ const PLAIN: bool = false;
 /// Returns the options of a call that converts these fields.
 fn options_of<'a>(fields: &'a FieldList, has_header: bool) -> Options<'a> {
     Options {
-        kind: Kind::Byte,
-        ignore_case: false,
-        binary: false,
+        spec: ParseSpec::BYTES,
         form: Form::Exact,
         precision: None,
         suffix: b"",

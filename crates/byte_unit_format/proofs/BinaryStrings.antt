@@ -5,7 +5,7 @@ use Rattle.std.proofs.Common.{◌≡◌, ◌<◌, ℕ, nat_lt, List, Bool, true,
 use Rattle.std.proofs.Common.{arith}
 use Rattle.byte_unit_base.specs.Shape.{Shape, shape}
 use Rattle.byte_unit_base.specs.Version.{current}
-use Rattle.byte_unit_base.specs.BinaryReading.{binary_of}
+use Rattle.byte_unit_base.specs.ParseSpec.{parse_spec, binary_of}
 use Rattle.byte_unit_choice.specs.Choice.{IsRecoveredIn}
 use Rattle.byte_unit_base.specs.declared.kind.Kind.{Kind}
 use Rattle.byte_unit_format.specs.Forms.{IsText, default_precision}
@@ -33,13 +33,13 @@ by_prefix kind ignore_case size text below unit recovered true prefix form =
     let same =
     recovered_unit_unique current kind size default_precision form.unit unit form.is_recovered recovered in
     record {
-      binary = accepted_as binary_of kind ignore_case text form.number size form.unit
+      binary = accepted_as (parse_spec kind ignore_case true) text form.number size form.unit
           (by_power (nat_lt 0 form.unit.power) form.unit (ap has_binary_prefix same ∙ prefix))
           (form_is_size kind size alternate_spec ignore_case text below form) form.number_is below;
       usual = size_form_reads_back kind size alternate_spec ignore_case text below form;
     }
 by_prefix kind ignore_case size text below unit recovered false prefix digits = rw digits (record {
-  binary = digits_accepted binary_of kind ignore_case size plain_spec refl below (grind arith);
+  binary = digits_accepted (parse_spec kind ignore_case true) size plain_spec refl below (grind arith);
   usual = plain_form_reads_back kind size plain_spec ignore_case below (grind arith);
 })
 

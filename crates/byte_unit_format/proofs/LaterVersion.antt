@@ -11,7 +11,7 @@ use Rattle.byte_unit_math.specs.Numeral.{short_numeral}
 use Rattle.byte_unit_base.specs.Shape.{Shape, shape, bits}
 use Rattle.byte_unit_base.specs.Version.{first_version, current, unit_name_in}
 use Rattle.byte_unit_base.specs.Spelling.{Spells, SpellsPrefix}
-use Rattle.byte_unit_base.specs.declared.unit.scan.Flags.{Flags}
+use Rattle.byte_unit_base.specs.declared.spec.Flags.{Flags}
 use Rattle.byte_unit_base.specs.Number.{IsNumberText}
 use Rattle.byte_unit_choice.specs.Family.{InFamily, own_family}
 use Rattle.byte_unit_base.specs.Kinds.{bits_in, flags_for}

@@ -31,7 +31,9 @@ use Rattle.byte_unit_choice.specs.Choice.{IsRecoveredIn}
 use Rattle.byte_unit_choice.proofs.Choosing.{some_bits, own_number}
 use Rattle.byte_unit_base.proofs.Names.{IsKnown, SaysKind, name_spells, name_visible, name_some, unit_known}
 use Rattle.byte_unit_base.specs.Kinds.{bits_in, own_unit, flags_for}
-use Rattle.byte_unit_base.specs.Accepted.{IsAccepted, IsAcceptedAs, IsRejected, as_written}
+use Rattle.byte_unit_base.specs.Accepted.{IsAccepted, IsAcceptedAs, IsRejected}
+use Rattle.byte_unit_base.specs.ParseSpec.{parse_spec, unit_meant}
+use Rattle.byte_unit_base.specs.declared.spec.ParseSpec.{ParseSpec}
 use Rattle.byte_unit_format.specs.Layout.{layout, layout_padding, layout_left_padding, gap_of}
 use Rattle.byte_unit_format.specs.Forms.{places_of, IsSizeForm}
 use Rattle.byte_unit_format.specs.FormLaws.{SizeFormReadsBack, PlainFormReadsBack, AdjustedStringReadsBack, FitsDecimal}
@@ -57,13 +59,13 @@ own_says Byte ignore_case bit has is_bit = absurd (let never : ⊥ = cc in never
 own_says Bit ignore_case bit has is_bit = refl
 
 -- A text that is read as a number of a unit is accepted as the size, if that number of the unit is exactly the size and
--- `meant` leaves the unit as it is.
+-- the unit that is meant is that unit.
 pub accepted_as :
-    (meant : Shape → Shape) (kind : Kind) (ignore_case : Bool) (text : List ℕ) (number size : ℕ) (unit : Shape)
-    → meant unit ≡ unit → IsSizeText current (flags_for kind ignore_case) (trim_of text) number unit
-    → number * bits unit ≡ size * bits_in kind * scale → size < current.size_limit
-    → IsAcceptedAs meant current kind ignore_case text size
-accepted_as meant kind ignore_case text number size unit itself is_size exact below = grind (arith)
+    (reading : ParseSpec) (text : List ℕ) (number size : ℕ) (unit : Shape) → unit_meant reading unit ≡ unit
+    → IsSizeText current (flags_for reading.kind reading.ignore_case) (trim_of text) number unit
+    → number * bits unit ≡ size * bits_in reading.kind * scale → size < current.size_limit
+    → IsAcceptedAs reading current text size
+accepted_as reading text number size unit itself is_size exact below = grind (arith)
 
 -- A layout is spaces, the number, spaces and the unit.
 layout_regrouped :
@@ -153,7 +155,7 @@ form_is_size kind size spec ignore_case text below form =
 -- A size formatted with a unit is read as the size.
 pub size_form_reads_back : SizeFormReadsBack
 size_form_reads_back kind size spec ignore_case text below form =
-    accepted_as as_written kind ignore_case text form.number size form.unit refl
+    accepted_as (parse_spec kind ignore_case false) text form.number size form.unit refl
     (form_is_size kind size spec ignore_case text below form) form.number_is below
 
 -- A sign other than `Plus` writes nothing before the digits.
@@ -188,20 +190,20 @@ digits_are_size kind size spec ignore_case below sign =
       unit_is = no_unit kind ignore_case;
     }
 
--- A size formatted as digits without a plus sign is read as the size, if `meant` leaves the base unit as it is.
+-- A size formatted as digits without a plus sign is read as the size, if the base unit is meant by itself.
 pub digits_accepted :
-    (meant : Shape → Shape) (kind : Kind) (ignore_case : Bool) (size : ℕ) (spec : FormatSpec)
-    → meant (own_unit kind) ≡ own_unit kind → size < current.size_limit → spec.sign ≢ Plus
-    → IsAcceptedAs meant current kind ignore_case (plain size spec) size
-digits_accepted meant kind ignore_case size spec own below sign =
-    accepted_as meant kind ignore_case (plain size spec) (size * scale) size (own_unit kind) own
-    (digits_are_size kind size spec ignore_case below sign) (own_number kind size (size * scale) (own_unit kind) refl refl)
-    below
+    (reading : ParseSpec) (size : ℕ) (spec : FormatSpec) → unit_meant reading (own_unit reading.kind) ≡ own_unit reading.kind
+    → size < current.size_limit → spec.sign ≢ Plus → IsAcceptedAs reading current (plain size spec) size
+digits_accepted reading size spec own below sign =
+    let unit = own_unit reading.kind in
+    accepted_as reading (plain size spec) (size * scale) size unit own
+    (digits_are_size reading.kind size spec reading.ignore_case below sign)
+    (own_number reading.kind size (size * scale) unit refl refl) below
 
 -- A size formatted as digits without a plus sign is read as the size.
 pub plain_form_reads_back : PlainFormReadsBack
 plain_form_reads_back kind size spec ignore_case below sign =
-    digits_accepted as_written kind ignore_case size spec refl below sign
+    digits_accepted (parse_spec kind ignore_case false) size spec refl below sign
 
 -- The digits of the expansion of a size are below ten, and its whole part is within the bound of the grammar.
 expansion_bounded : (kind : Kind) (size : ℕ) (unit : Shape) (e : Finite) → size < current.size_limit

@@ -31,7 +31,8 @@ WORDS = {
     "byte_constant": "bit_constant", "byte_bounds": "bit_bounds", "B": "b",
     **{f"{prefix}B": f"{prefix}b" for prefix in PREFIXES},
     **both_ways({
-        "Kind::Byte": "Kind::Bit", "allow_in_bits": "allow_in_bytes", "Unit::B": "Unit::Bit", "Unit.B": "Unit.Bit",
+        "Kind::Byte": "Kind::Bit", "ParseSpec::BYTES": "ParseSpec::BITS",
+        "ParseSpec::BINARY_BYTES": "ParseSpec::BINARY_BITS", "allow_in_bits": "allow_in_bytes", "Unit::B": "Unit::Bit", "Unit.B": "Unit.Bit",
         **{f"Unit::{prefix}B": f"Unit::{prefix}bit" for prefix in PREFIXES},
         "BYTE": "BIT", **{f"{name}BYTE": f"{name}BIT" for name in PREFIXES.values()},
     }),

@@ -10,8 +10,8 @@ from ..source import Source, blanked, sources
 from .by_hand import REPLACED, unchanged
 from .rust_outputs import outputs
 from .rust_rules import (
-    ALONE, BY_HAND, CLAUSE, COMMENT_FORMS, CONST, CONST_FORMS, DERIVED, EXAMPLE_FORMS, FORMS, HIDDEN, INLINED,
-    HIDDEN_EXAMPLES, ITEMS_BY_HAND, ITEMS_LEFT_OUT, LEFT_OUT, NAMES_LEFT_OUT, PRELUDE, PUBLIC, STD, TRAITS,
+    ALONE, BY_HAND, CLAUSE, COMMENT_FORMS, CONST, CONST_FORMS, DERIVED, EXAMPLE_FORMS, FIRST_MODULES, FORMS, HIDDEN,
+    HIDDEN_EXAMPLES, INLINED, ITEMS_BY_HAND, ITEMS_LEFT_OUT, LEFT_OUT, NAMES_LEFT_OUT, PRELUDE, PUBLIC, STD, TRAITS,
 )  # fmt: skip
 from .vocabulary import LIBRARY, Vocabulary
 
@@ -38,6 +38,7 @@ MODULE = """//! The proved sources of the library as Rust, without their contrac
     clippy::manual_div_ceil,
     clippy::manual_map,
     clippy::module_inception,
+    clippy::needless_range_loop,
     clippy::needless_return,
     clippy::new_without_default,
     clippy::type_complexity
@@ -278,6 +279,17 @@ def examples(file):
     return re.sub(r"^( *//[/!] )```rust\n((?:\1?.*\n)*?)\1```\n", change, file.text, flags=re.M)
 
 
+def ordered(text):
+    """Puts the modules of FIRST_MODULES before the others of their file, each in a group of its own for rustfmt."""
+    def change(found):
+        names = re.findall(r"mod (\w+);", found[0])
+        if not {*FIRST_MODULES} < {*names}:
+            return found[0]
+        return "\n".join(f"mod {name};\n" for name in dict.fromkeys([*FIRST_MODULES, *names]))
+
+    return re.sub(r"(?:^mod \w+;\n)+", change, text, flags=re.M)
+
+
 def rendered(name, crate, exported):
     """Returns the text of a file in Rust, before rustfmt."""
     file = Rendered(name, crate)
@@ -293,7 +305,7 @@ def rendered(name, crate, exported):
     file.rewrite(FORMS)
     outputs(file)
     functions(file)
-    return file.finished(examples(file))
+    return ordered(file.finished(examples(file)))
 
 
 def formatted(text):

@@ -15,7 +15,7 @@ FOLDER = "bindings/programs/src/rendered"
 MODULES = {"stream": "", "lines": "", "command": '#[cfg(feature = "command")]\n', "cli": '#[cfg(feature = "command")]\n'}
 MODULE = rust.HEAD("crates/") + """//! The proved sources of the programs as Rust, without their contracts, a module for each crate.
 // What only contracts read, tests call, or loops of proofs name stays.
-#![allow(clippy::manual_range_contains, dead_code, unused_imports, unused_variables)]
+#![allow(clippy::manual_range_contains, clippy::result_large_err, dead_code, unused_imports, unused_variables)]
 
 """ + "".join(f"{feature}pub mod {name};\n" for name, feature in MODULES.items())
 

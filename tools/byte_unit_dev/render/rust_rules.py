@@ -64,6 +64,7 @@ FORMS = [
     (r"bytes\[start \+ 1\] = PAIRS\[pair \+ 1\];\s*bytes\[start\] = PAIRS\[pair\];",
      "bytes[start..end].copy_from_slice(&PAIRS[pair..pair + 2]);", "one store, and one test of its indexes"),
     (r"\bvalue_of_eight\(", "crate::support::value_of_eight(", "fewer instructions, as in `read_digits`"),
+    (r"\bsuffix_len\(", "crate::support::lanes::suffix_len(", "the same"),
     (r"\bfirst_char\(&text\[([\w.]+)\.\.\]\)", r"crate::support::char_at(text, \1)", "fewer, if it is ASCII"),
     (r"\bfmt::Display::fmt\(value, f\)",
      "fmt::Display::fmt(&crate::rendered::math::Expansion::from_decimal(*value), f)",
@@ -80,12 +81,14 @@ CONST = {
     "base/src/kind": "bits unit",
     "base/src/unit": "as_bits_u128 as_str is_bit is_binary_multiples",
     "base/src/size": "bounded ceil_to_kind with_unit",
-    **{f"{kind}/src/{kind}": "from_u128 from_u64 from_i128 from_i64 from_u128_with_unit from_u64_with_unit "
-       "from_i128_with_unit from_i64_with_unit as_u128 as_u64 as_u64_checked add subtract multiply divide"
-       for kind in ("byte", "bit")},
+    **{f"{kind}/src/{kind}": "as_u128 as_u64 as_u64_checked add subtract multiply divide" for kind in ("byte", "bit")},
+    **{f"{kind}/src/{kind}/constructors": "from_u128 from_u64 from_i128 from_i64 from_u128_with_unit "
+       "from_u64_with_unit from_i128_with_unit from_i64_with_unit" for kind in ("byte", "bit")},
     "byte/src/byte/adjusted": "get_unit get_byte get_adjusted_unit",
     "bit/src/bit/adjusted": "get_unit get_bit get_adjusted_unit",
 }  # fmt: skip
+# The modules of a type that are before its others, since rustdoc has its methods in the order of modules.
+FIRST_MODULES = "parse constructors decimal units".split()
 # Forms in their bodies: Rust's `const fn` has neither `?` nor calls of traits and closures.
 CONST_FORMS = [
     (r"\b([ui]\d+)::from\(([\w.]+)\)", r"\2 as \1"),

@@ -8,7 +8,7 @@ from itertools import zip_longest
 from ..source import line_of, source
 from .pages import with_parts
 
-TABLES, SCAN = "crates/byte_unit_base/src/unit/tables.rt", "crates/byte_unit_base/src/unit/scan.rt"
+TABLES, SCAN = "crates/byte_unit_base/src/unit/tables.rt", "crates/byte_unit_base/src/stop.rt"
 HEADER, JAVASCRIPT = "bindings/c/byte_unit.h", "bindings/js/options.js"
 ERROR = "crates/byte_unit_c/src/error.rt"
 

@@ -33,7 +33,7 @@ LIBRARY = [
         saturating_mul saturating_sub split_at then then_some trailing_zeros trim trim_start unwrap unwrap_or
         wrapping_add wrapping_mul wrapping_sub write_str"""),
     # By hand, in `support`.
-    ("{}", """InlineText InlineText::of last_16_digits read_digits suffix_len u8x16 u8x32::from_slice
+    ("{}", """InlineText InlineText::of last_16_digits read_digits u8x16 u8x32::from_slice
         u8x32::splat u8x4::from_slice u8x8::from_slice u32x1::from_le_bytes u64x1::from_le_bytes .simd_ne( .to_array(
         .to_bitmask("""),
     # Literals, with what is escaped and formatted in them; ranges, and what is left out of a pattern; marks.

@@ -2,10 +2,10 @@
 
 //! Parsing with the flag `BINARY_PREFIXES`: decimal prefixes mean binary ones.
 //!
-//! The calls without the flag are compiled apart from these, so that it costs them no instruction.
+//! Calls without the flag are apart, for the row `parse 1.5 KiB` of docs/SPEED.md.
 
 use crate::rendered::error::{Error, INVALID_ARGUMENT};
-use crate::rendered::flags::binary_flags_at;
+use crate::rendered::flags::binary_spec_at;
 use crate::rendered::parse::parse_as;
 use crate::rendered::values::Number;
 use crate::slices::Out;
@@ -27,8 +27,8 @@ pub unsafe extern "C" fn byte_unit_parse_binary_to(
 ) -> u32 {
     // SAFETY: the caller's promise.
     let (text, error) = unsafe { (crate::slices::slice(text, text_len), crate::slices::slice_mut(error, error_len)) };
-    match binary_flags_at(flags) {
-        Some(asked) => parse_as::<true>(text, asked, size, error),
+    match binary_spec_at(flags) {
+        Some(spec) => parse_as(text, spec, size, error),
         None => INVALID_ARGUMENT,
     }
 }

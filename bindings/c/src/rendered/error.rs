@@ -4,7 +4,7 @@
 
 use crate::rendered::values::DecimalParts;
 use crate::slices::Out;
-use byte_unit::rendered::base::{Expected, ValueParseError};
+use byte_unit::rendered::base::{Expected, ParseError, ValueParseError};
 
 /// The details of a parse error. A field that the error's code does not use is zero.
 #[repr(C)]
@@ -52,20 +52,20 @@ impl Error {
     pub const NONE: Error =
         Error { character: 0, also_expect_no_character: 0, expected: [0; 16], number: DecimalParts::ZERO, position: 0 };
 
-    /// Returns the code and the details of an error in the number, at a position.
-    pub fn of_value(error: ValueParseError, position: usize) -> (u32, Error) {
+    /// Returns the details of an error in the number, at a position. Its code is [`value_code`].
+    pub fn of_value(error: ValueParseError, position: usize) -> Error {
         let base = Error { position, ..Error::NONE };
         match error {
             ValueParseError::ExceededBounds(number) => {
                 let number = DecimalParts::new(number);
-                (EXCEEDED_BOUNDS, Error { number, ..base })
+                Error { number, ..base }
             }
             ValueParseError::NotNumber(c) => {
                 let character = c as u32;
-                (NOT_NUMBER, Error { character, ..base })
+                Error { character, ..base }
             }
-            ValueParseError::NoValue => (NO_VALUE, base),
-            ValueParseError::NumberTooLong => (NUMBER_TOO_LONG, base),
+            ValueParseError::NoValue => base,
+            ValueParseError::NumberTooLong => base,
         }
     }
 
@@ -86,6 +86,24 @@ impl Error {
         if !errors.is_empty() {
             errors[0] = Out::new(self);
         }
+    }
+}
+
+/// Returns the code of an error.
+pub fn code_of(error: &ParseError) -> u32 {
+    match error {
+        ParseError::Value(error) => value_code(error),
+        ParseError::Unit(_) => UNIT,
+    }
+}
+
+/// Returns the code of an error in the number.
+pub fn value_code(error: &ValueParseError) -> u32 {
+    match error {
+        ValueParseError::ExceededBounds(_) => EXCEEDED_BOUNDS,
+        ValueParseError::NotNumber(_) => NOT_NUMBER,
+        ValueParseError::NoValue => NO_VALUE,
+        ValueParseError::NumberTooLong => NUMBER_TOO_LONG,
     }
 }
 

@@ -2,12 +2,12 @@
 
 //! Messages for strings that are rejected, and strings as messages quote them.
 
-use crate::rendered::flags::{ParseFlags, binary_flags_at, parse_flags_at};
+use crate::rendered::flags::{any_spec_at, parse_spec_at};
 use crate::rendered::message::write_message;
 use crate::rendered::parse::{read_unit, unit_flags};
 use crate::rendered::texts::write;
 use crate::slices::Out;
-use byte_unit::rendered::base::{LocatedError, MAX_QUOTE_LEN, ParseError, location_at, quote, size};
+use byte_unit::rendered::base::{LocatedError, MAX_QUOTE_LEN, ParseError, ParseSpec, location_at, quote, size};
 
 /// Writes the error message for a string that is rejected to the start of `out`, and returns its length, at most 256
 /// bytes. Returns the length and writes nothing if `out` is shorter. Returns 0 if and only if all flags are known and
@@ -29,19 +29,16 @@ pub unsafe extern "C" fn byte_unit_explain(
 ) -> usize {
     // SAFETY: the caller's promise.
     let (text, out) = unsafe { (crate::slices::slice(text, text_len), crate::slices::slice_mut(out, out_len)) };
-    match parse_flags_at(flags) {
-        Some(asked) => explain_as::<false>(text, asked, out),
-        None => match binary_flags_at(flags) {
-            Some(asked) => explain_as::<true>(text, asked, out),
-            None => write(b"a flag is unknown", out),
-        },
+    match any_spec_at(flags) {
+        Some(spec) => explain_as(text, spec, out),
+        None => write(b"a flag is unknown", out),
     }
 }
 
-/// Explains as `byte_unit_explain` does, with known flags. With `BINARY` a decimal prefix means the binary one.
-fn explain_as<const BINARY: bool>(text: &[u8], asked: ParseFlags, out: &mut [Out<u8>]) -> usize {
-    // By reference: the error is large, and would be copied.
-    match &size::explain::<BINARY>(text, asked.ignore_case, asked.kind) {
+/// Explains as `byte_unit_explain` does, with known flags.
+fn explain_as(text: &[u8], spec: ParseSpec, out: &mut [Out<u8>]) -> usize {
+    // By reference, for the row `explain 1 byte` of docs/SPEED.md.
+    match &size::explain(text, spec) {
         Some(Ok(_)) => 0,
         Some(Err(error)) => write_message(error, out),
         None => write(b"the text is not UTF-8", out),
@@ -66,23 +63,22 @@ pub unsafe extern "C" fn byte_unit_explain_unit(
 ) -> usize {
     // SAFETY: the caller's promise.
     let (text, out) = unsafe { (crate::slices::slice(text, text_len), crate::slices::slice_mut(out, out_len)) };
-    match parse_flags_at(flags) {
-        Some(asked) => explain_unit_as(text, asked, out),
+    match parse_spec_at(flags) {
+        Some(spec) => explain_unit_as(text, spec, out),
         None => write(b"a flag is unknown", out),
     }
 }
 
 /// Explains as `byte_unit_explain_unit` does, with known flags.
-fn explain_unit_as(text: &[u8], asked: ParseFlags, out: &mut [Out<u8>]) -> usize {
-    let flags = unit_flags(asked);
+fn explain_unit_as(text: &[u8], spec: ParseSpec, out: &mut [Out<u8>]) -> usize {
+    let flags = unit_flags(spec);
     match read_unit(text, flags) {
         Some(Ok(_)) => 0,
-        Some(Err(stopped)) => {
-            let (stop, next, position) = stopped;
+        Some(Err(stop)) => {
             let error = LocatedError {
-                error: ParseError::Unit(stop.error_before(next, flags)),
-                expected: stop.expected_before(next, flags),
-                location: location_at(text, position, next),
+                error: ParseError::Unit(stop.reason.error_before(stop.next, flags)),
+                expected: stop.reason.expected_before(stop.next, flags),
+                location: location_at(text, stop.index, stop.next),
             };
             write_message(&error, out)
         }

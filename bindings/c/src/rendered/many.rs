@@ -2,19 +2,19 @@
 
 //! Parsing of many texts in one call.
 
-use crate::rendered::error::{Error, INVALID_ARGUMENT, NOT_UTF8, OK, UNIT};
-use crate::rendered::flags::{MOST_PLAIN, ParseFlags, binary_flags_at, plain_flags};
+use crate::rendered::error::{INVALID_ARGUMENT, NOT_UTF8, OK, code_of};
+use crate::rendered::flags::any_spec_at;
 use crate::rendered::offsets::Offsets;
 use crate::rendered::values::Number;
 use crate::slices::Out;
-use byte_unit::rendered::base::{ParseError, size};
+use byte_unit::rendered::base::{ParseSpec, size};
 
 /// Parses many texts, each as `byte_unit_parse_to` does. Text `i` is the bytes of `data` from `offsets[i]` up to
 /// `offsets[i + 1]`, so there is one offset more than texts; if there are no texts, there may be no offset either.
 /// Returns `OK`, and writes the code of each text to `codes`, and its size to `sizes`, or 0 there if it has none.
 ///
 /// Returns `INVALID_ARGUMENT` and writes nothing if a flag is unknown, the first offset is negative, an offset is less
-/// than the one before it, the last is past the end of `data`, or `sizes` or `codes` has not one place for each text.
+/// than the one before it, the last is past the end of `data`, or `sizes` or `codes` has not one element for each text.
 ///
 /// For example, the data `1 KB2x` with the offsets 0, 4, 6 gives the codes `OK` and `UNIT` and the sizes 1000 and 0.
 #[unsafe(no_mangle)]
@@ -71,16 +71,13 @@ fn parse_many(data: &[u8], offsets: Offsets<'_>, flags: u32, sizes: &mut [Out<Nu
     if !is_layout(data, offsets, sizes.len(), codes.len()) {
         return INVALID_ARGUMENT;
     }
-    // Only flags with `BINARY_PREFIXES` and unknown ones are greater.
-    if flags > MOST_PLAIN {
-        let Some(asked) = binary_flags_at(flags) else {
-            return INVALID_ARGUMENT;
-        };
-        parse_each::<true>(data, offsets, asked, sizes, codes);
-        return OK;
+    match any_spec_at(flags) {
+        Some(spec) => {
+            parse_each(data, offsets, spec, sizes, codes);
+            OK
+        }
+        None => INVALID_ARGUMENT,
     }
-    parse_each::<false>(data, offsets, plain_flags(flags), sizes, codes);
-    OK
 }
 
 /// Returns whether the offsets ascend within the data, and there is a size and a code for each text.
@@ -89,18 +86,12 @@ fn is_layout(data: &[u8], offsets: Offsets<'_>, sizes_len: usize, codes_len: usi
     sizes_len == texts && codes_len == texts && offsets.ascend_to(data.len())
 }
 
-/// Parses each text, and writes its code and its size. With `BINARY` decimal prefixes mean binary ones.
+/// Parses each text, and writes its code and its size.
 ///
 /// Precondition: the offsets and lengths are a layout.
-fn parse_each<const BINARY: bool>(
-    data: &[u8],
-    offsets: Offsets<'_>,
-    asked: ParseFlags,
-    sizes: &mut [Out<Number>],
-    codes: &mut [Out<u8>],
-) {
+fn parse_each(data: &[u8], offsets: Offsets<'_>, spec: ParseSpec, sizes: &mut [Out<Number>], codes: &mut [Out<u8>]) {
     for i in 0..codes.len() {
-        let (code, size) = parse_one::<BINARY>(offsets.text_at(data, i), asked);
+        let (code, size) = parse_one(offsets.text_at(data, i), spec);
         codes[i] = Out::new(code);
         sizes[i] = Out::new(size);
     }
@@ -108,19 +99,10 @@ fn parse_each<const BINARY: bool>(
 
 /// Parses one text to its code and its size, which is 0 if there is none.
 #[inline(always)]
-fn parse_one<const BINARY: bool>(text: &[u8], asked: ParseFlags) -> (u8, Number) {
-    match size::parse_line::<BINARY>(text, text.len(), asked.ignore_case, asked.kind) {
+fn parse_one(text: &[u8], spec: ParseSpec) -> (u8, Number) {
+    match size::parse_line(text, text.len(), spec) {
         Some(Ok(size)) => (OK as u8, Number::new(size)),
-        Some(Err(error)) => (code_of(error), Number::ZERO),
+        Some(Err(error)) => (code_of(&error) as u8, Number::ZERO),
         None => (NOT_UTF8 as u8, Number::ZERO),
-    }
-}
-
-/// Returns the code of an error. Of an error in the number, the details with their position (0 here) are not used.
-#[cold]
-fn code_of(error: ParseError) -> u8 {
-    match error {
-        ParseError::Value(error) => Error::of_value(error, 0).0 as u8,
-        ParseError::Unit(_) => UNIT as u8,
     }
 }

@@ -3,12 +3,13 @@
 //! Parsing of sizes and of units.
 
 use crate::rendered::codes::unit_code;
-use crate::rendered::error::{Error, INVALID_ARGUMENT, NOT_UTF8, OK, UNIT, bytes_of};
-use crate::rendered::flags::{ParseFlags, parse_flags_at};
+use crate::rendered::error::{Error, INVALID_ARGUMENT, NOT_UTF8, OK, UNIT, bytes_of, value_code};
+use crate::rendered::flags::parse_spec_at;
 use crate::rendered::values::Number;
 use crate::slices::Out;
-use byte_unit::rendered::base::{Flags, Kind, Reason, Stop, Unit, UnitStop, ValueParseError, read_unit_text, size};
-use byte_unit::rendered::math::Decimal;
+use byte_unit::rendered::base::{
+    Flags, Kind, Measure, ParseSpec, Reason, Stop, Unit, UnitStop, ValueParseError, read_text, read_unit_text, size,
+};
 use core::str;
 
 /// Parses a size, rounded up to the next whole byte, or to the next whole bit with the flag `BITS` (1). Sizes are below
@@ -31,24 +32,18 @@ pub unsafe extern "C" fn byte_unit_parse_to(
 ) -> u32 {
     // SAFETY: the caller's promise.
     let (text, error) = unsafe { (crate::slices::slice(text, text_len), crate::slices::slice_mut(error, error_len)) };
-    match parse_flags_at(flags) {
-        Some(asked) => parse_as::<false>(text, asked, size, error),
+    match parse_spec_at(flags) {
+        Some(spec) => parse_as(text, spec, size, error),
         None => INVALID_ARGUMENT,
     }
 }
 
-/// Parses as `byte_unit_parse_to` does, with known flags. With `BINARY` a decimal prefix means the binary one: a call
-/// without it takes no instruction more for it.
+/// Parses as `byte_unit_parse_to` does, with known flags.
 #[inline(always)]
-pub fn parse_as<const BINARY: bool>(
-    text: &[u8],
-    asked: ParseFlags,
-    size: &mut Out<Number>,
-    errors: &mut [Out<Error>],
-) -> u32 {
-    let flags = size::flags_for(asked.kind, asked.ignore_case);
-    match size::read_text(text, flags) {
-        Some(Ok(found)) => write_size::<BINARY>(found, asked, size, errors),
+pub fn parse_as(text: &[u8], spec: ParseSpec, size: &mut Out<Number>, errors: &mut [Out<Error>]) -> u32 {
+    let flags = spec.flags();
+    match read_text(text, flags) {
+        Some(Ok(found)) => write_size(found, spec, size, errors),
         Some(Err(stop)) => write_stop(stop, flags, errors),
         None => NOT_UTF8,
     }
@@ -56,33 +51,26 @@ pub fn parse_as<const BINARY: bool>(
 
 /// Writes the size of a string with this unit and this number, or the details of the error that it is too large, and
 /// returns the code.
-///
-/// `#[inline(always)]`: the size is then never in memory before it is written.
 #[inline(always)]
-fn write_size<const BINARY: bool>(
-    found: (Unit, Decimal),
-    asked: ParseFlags,
-    size: &mut Out<Number>,
-    errors: &mut [Out<Error>],
-) -> u32 {
-    match size::size_of::<BINARY>((found.1, found.0), asked.kind) {
+fn write_size(found: Measure, spec: ParseSpec, size: &mut Out<Number>, errors: &mut [Out<Error>]) -> u32 {
+    let number = found.number;
+    match size::size_of(found, spec) {
         Ok(in_kind) => {
             *size = Out::new(Number::new(in_kind));
             OK
         }
-        Err(_) => write_value(ValueParseError::ExceededBounds(found.1), 0, errors),
+        Err(_) => write_value(ValueParseError::ExceededBounds(number), 0, errors),
     }
 }
 
 /// Writes the details of the error of a string in which the parser stops here, and returns its code.
-///
-/// `#[inline(always)]`: the error of a unit, whose parts are written, is then never in memory.
 #[inline(always)]
-fn write_stop(stop: Stop, flags: Flags, errors: &mut [Out<Error>]) -> u32 {
+fn write_stop(stop: Stop<Reason>, flags: Flags, errors: &mut [Out<Error>]) -> u32 {
     match stop.reason {
         Reason::InNumber(reason) => write_value(reason.error_before(stop.next), stop.index, errors),
         Reason::InUnit(reason) => {
-            write_unit_stop(reason, stop.next, flags, stop.index, errors);
+            let stop = Stop { reason, next: stop.next, index: stop.index };
+            write_unit_stop(stop, flags, errors);
             UNIT
         }
     }
@@ -91,18 +79,18 @@ fn write_stop(stop: Stop, flags: Flags, errors: &mut [Out<Error>]) -> u32 {
 /// Writes the details of an error in a number with its position, and returns its code.
 #[inline(always)]
 fn write_value(error: ValueParseError, position: usize, errors: &mut [Out<Error>]) -> u32 {
-    let (code, details) = Error::of_value(error, position);
-    details.write(errors);
+    let code = value_code(&error);
+    Error::of_value(error, position).write(errors);
     code
 }
 
-/// Writes the error of a parser of a unit that stops at this place, by the character there.
+/// Writes the error of a string in which the parser of a unit stops here.
 #[inline(always)]
-fn write_unit_stop(stop: UnitStop, next: Option<char>, flags: Flags, place: usize, errors: &mut [Out<Error>]) {
-    let expected = bytes_of(stop.expected_before(next, flags));
-    let error = stop.error_before(next, flags);
+fn write_unit_stop(stop: Stop<UnitStop>, flags: Flags, errors: &mut [Out<Error>]) {
+    let expected = bytes_of(stop.reason.expected_before(stop.next, flags));
+    let error = stop.reason.error_before(stop.next, flags);
     let may_end = error.also_expect_no_character;
-    Error::of_unit_parts(error.character, expected, may_end, place).write(errors);
+    Error::of_unit_parts(error.character, expected, may_end, stop.index).write(errors);
 }
 
 /// Parses a unit by one of its spellings, as `Unit::parse_str` does, and writes its code to `unit`. A spelling without
@@ -125,23 +113,22 @@ pub unsafe extern "C" fn byte_unit_parse_unit_to(
 ) -> u32 {
     // SAFETY: the caller's promise.
     let (text, error) = unsafe { (crate::slices::slice(text, text_len), crate::slices::slice_mut(error, error_len)) };
-    match parse_flags_at(flags) {
-        Some(asked) => parse_unit_as(text, asked, unit, error),
+    match parse_spec_at(flags) {
+        Some(spec) => parse_unit_as(text, spec, unit, error),
         None => INVALID_ARGUMENT,
     }
 }
 
 /// Parses as `byte_unit_parse_unit_to` does, with known flags.
-fn parse_unit_as(text: &[u8], asked: ParseFlags, unit: &mut Out<u32>, errors: &mut [Out<Error>]) -> u32 {
-    let flags = unit_flags(asked);
+fn parse_unit_as(text: &[u8], spec: ParseSpec, unit: &mut Out<u32>, errors: &mut [Out<Error>]) -> u32 {
+    let flags = unit_flags(spec);
     match read_unit(text, flags) {
         Some(Ok(found)) => {
             *unit = Out::new(unit_code(found));
             OK
         }
-        Some(Err(stopped)) => {
-            let (stop, next, position) = stopped;
-            write_unit_stop(stop, next, flags, position, errors);
+        Some(Err(stop)) => {
+            write_unit_stop(stop, flags, errors);
             UNIT
         }
         None => NOT_UTF8,
@@ -150,7 +137,7 @@ fn parse_unit_as(text: &[u8], asked: ParseFlags, unit: &mut Out<u32>, errors: &m
 
 /// Parses a unit from bytes, as `read_unit_text` does from a string. Returns `None` if the bytes are not UTF-8.
 #[inline(always)]
-pub(crate) fn read_unit(bytes: &[u8], flags: Flags) -> Option<Result<Unit, (UnitStop, Option<char>, usize)>> {
+pub(crate) fn read_unit(bytes: &[u8], flags: Flags) -> Option<Result<Unit, Stop<UnitStop>>> {
     match str::from_utf8(bytes) {
         Ok(text) => Some(read_unit_text(text, flags)),
         Err(_) => None,
@@ -158,10 +145,6 @@ pub(crate) fn read_unit(bytes: &[u8], flags: Flags) -> Option<Result<Unit, (Unit
 }
 
 /// Returns the flags for parsing a unit: one with no suffix is of the kind of sizes.
-pub(crate) fn unit_flags(asked: ParseFlags) -> Flags {
-    let prefer_byte = match asked.kind {
-        Kind::Byte => true,
-        Kind::Bit => false,
-    };
-    Flags { ignore_case: asked.ignore_case, prefer_byte }
+pub(crate) fn unit_flags(spec: ParseSpec) -> Flags {
+    Flags::new(spec.ignore_case, matches!(spec.kind, Kind::Byte))
 }

@@ -46,8 +46,8 @@ pub unsafe extern "C" fn byte_unit_unit_error_position(
 /// Writes the position, if there is one, and returns whether there is.
 fn write_position(found: Option<usize>, position: &mut Out<usize>) -> bool {
     match found {
-        Some(place) => {
-            *position = Out::new(place);
+        Some(index) => {
+            *position = Out::new(index);
             true
         }
         None => false,

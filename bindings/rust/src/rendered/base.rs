@@ -9,16 +9,18 @@ pub use crate::rendered::base::errors::{
 };
 pub use crate::rendered::base::kind::Kind;
 pub use crate::rendered::base::quoted::{MAX_QUOTE_LEN, Quoted, quote};
-pub use crate::rendered::base::read::read_size;
-pub use crate::rendered::base::read::stop::{NumberStop, Reason, Stop, error_at, location_at};
+pub use crate::rendered::base::read::{Measure, read_size, read_text};
+pub use crate::rendered::base::spec::{Flags, ParseSpec};
+pub use crate::rendered::base::stop::{Expected, NumberStop, Reason, Stop, UnitStop, error_at, location_at};
+pub use crate::rendered::base::unit::Unit;
 pub use crate::rendered::base::unit::parse::read_unit_text;
-pub use crate::rendered::base::unit::scan::{Expected, Flags, UnitStop};
 pub use crate::rendered::base::unit::tables::{PREFIXES, prefix_letter, unit_at};
-pub use crate::rendered::base::unit::{Unit, unit_with_prefix};
 
 mod errors;
 mod kind;
 mod quoted;
 mod read;
 pub mod size;
+mod spec;
+mod stop;
 mod unit;

@@ -12,6 +12,7 @@
     clippy::manual_div_ceil,
     clippy::manual_map,
     clippy::module_inception,
+    clippy::needless_range_loop,
     clippy::needless_return,
     clippy::new_without_default,
     clippy::type_complexity

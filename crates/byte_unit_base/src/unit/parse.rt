@@ -4,9 +4,9 @@ ghost use Rattle.byte_unit_base.specs.Spelling.{flags_of};
 ghost use Rattle.byte_unit_base.specs.Outcome.{IsUnitOrStop};
 
 use crate::read::leading_len;
-use crate::read::number::read_unit;
-use crate::read::stop::first_char;
-use crate::unit::scan::{Flags, UnitStop};
+use crate::read::unit::read_unit;
+use crate::spec::Flags;
+use crate::stop::{Stop, UnitStop, first_char};
 use crate::{Unit, UnitParseError};
 use std::str::FromStr;
 
@@ -35,16 +35,10 @@ impl Unit {
     pub fn parse_str(s: &str, ignore_case: bool, prefer_byte: bool) -> Result<Unit, UnitParseError>
         ensures { IsUnitReading (flags_of ignore_case prefer_byte) s.now result }
     {
-        let flags = Flags {
-            ignore_case,
-            prefer_byte,
-        };
+        let flags = Flags::new(ignore_case, prefer_byte);
         match read_unit_text(s, flags) {
             Ok(unit) => Ok(unit),
-            Err(stopped) => {
-                let (stop, next, _) = stopped;
-                Err(stop.error_before(next, flags))
-            }
+            Err(stop) => Err(stop.reason.error_before(stop.next, flags)),
         }
     }
 
@@ -65,7 +59,7 @@ impl Unit {
     {
         match read_unit_text(s, Flags::ANY) {
             Ok(_) => None,
-            Err(stopped) => Some(stopped.2),
+            Err(stop) => Some(stop.index),
         }
     }
 }
@@ -73,27 +67,28 @@ impl Unit {
 /// Parses a unit as [`Unit::parse_str`] does, and leaves the error to be made by [`UnitStop::error_before`].
 ///
 /// # Errors
-/// Returns what was read before the parser stops, the character there, or `None` at the end, and the position, as
-/// [`Unit::error_position`] returns it.
+/// Returns where the parser stops in the string, at the index that [`Unit::error_position`] returns, and what was read
+/// before.
 ///
 /// # Examples
 /// ```rust
-/// let flags = size::flags_for(Kind::Byte, false);
+/// let flags = ParseSpec::BYTES.flags();
 /// assert!(rt; matches!(read_unit_text("KiB", flags), Ok(Unit::KiB)));
-/// assert!(rt; matches!(read_unit_text(" Kix", flags), Err((_, Some('x'), 3))));
+/// assert!(rt; matches!(read_unit_text(" Kix", flags), Err(Stop { next: Some('x'), index: 3, .. })));
 /// ```
 #[inline(always)]
-pub fn read_unit_text(s: &str, flags: Flags) -> Result<Unit, (UnitStop, Option<char>, usize)>
+pub fn read_unit_text(s: &str, flags: Flags) -> Result<Unit, Stop<UnitStop>>
     ensures { IsUnitOrStop flags s.now result }
 {
     let text = s.trim();
     let bytes = text.as_bytes();
     match read_unit(bytes, bytes, 0, flags) {
         Ok(found) => Ok(found),
-        Err(stop) => {
-            let next = first_char(&text[stop.1..]);
-            Err((stop.0, next, leading_len(s) + stop.1))
-        }
+        Err(stop) => Err(Stop {
+            reason: stop.reason,
+            next: first_char(&text[stop.index..]),
+            index: leading_len(s) + stop.index,
+        }),
     }
 }
 

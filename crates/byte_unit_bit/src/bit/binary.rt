@@ -6,7 +6,7 @@ ghost use Rattle.byte_unit_base.specs.BinaryReading.{IsBinaryReading, IsBinaryBy
 ghost use Rattle.byte_unit_base.specs.declared.kind.Kind.TheVariants.{Bit as InBits};
 
 use super::Bit;
-use byte_unit_base::{Kind, ParseError, size};
+use byte_unit_base::{ParseError, ParseSpec, size};
 
 impl Bit {
     /// Parses a size from a string, as [`Bit::parse_str`] does, except that a decimal prefix means the binary one:
@@ -28,7 +28,7 @@ impl Bit {
     pub fn parse_str_binary(s: &str) -> Result<Bit, ParseError>
         ensures { IsBinaryReading InBits false s.now result }
     {
-        let size = size::parse::<true>(s, false, Kind::Bit)?;
+        let size = size::parse(s, ParseSpec::BINARY_BITS)?;
         Ok(Bit { size })
     }
 
@@ -44,7 +44,7 @@ impl Bit {
     pub fn parse_bytes_binary(bytes: &[u8]) -> Option<Result<Bit, ParseError>>
         ensures { IsBinaryBytesReading InBits false bytes.now result }
     {
-        match size::parse_bytes::<true>(bytes, false, Kind::Bit)? {
+        match size::parse_bytes(bytes, ParseSpec::BINARY_BITS)? {
             Ok(size) => Some(Ok(Bit { size })),
             Err(error) => Some(Err(error)),
         }

@@ -7,7 +7,7 @@ ghost use Rattle.byte_unit_base.specs.SizeReading.{IsSizeReading, IsBytesReading
 ghost use Rattle.byte_unit_base.specs.declared.kind.Kind.TheVariants.{Bit as InBits};
 
 use super::Bit;
-use byte_unit_base::{Kind, ParseError, size};
+use byte_unit_base::{ParseError, ParseSpec, size};
 
 impl Bit {
     /// Parses a size from a string, rounded up to a whole bit. Does not allocate.
@@ -41,7 +41,7 @@ impl Bit {
     pub fn parse_str(s: &str) -> Result<Bit, ParseError>
         ensures { IsSizeReading InBits false s.now result }
     {
-        let size = size::parse::<false>(s, false, Kind::Bit)?;
+        let size = size::parse(s, ParseSpec::BITS)?;
         Ok(Bit { size })
     }
 
@@ -80,7 +80,7 @@ impl Bit {
         requires { IsLine bytes.now len }
         ensures { IsBytesReading InBits false (take len bytes.now) result }
     {
-        match size::parse_line::<false>(bytes, len, false, Kind::Bit)? {
+        match size::parse_line(bytes, len, ParseSpec::BITS)? {
             Ok(size) => Some(Ok(Bit { size })),
             Err(error) => Some(Err(error)),
         }

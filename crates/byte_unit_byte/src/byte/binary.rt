@@ -4,7 +4,7 @@ ghost use Rattle.byte_unit_base.specs.BinaryReading.{IsBinaryReading, IsBinaryBy
 ghost use Rattle.byte_unit_base.specs.declared.kind.Kind.TheVariants.{Byte as InBytes};
 
 use super::Byte;
-use byte_unit_base::{Kind, ParseError, size};
+use byte_unit_base::{ParseError, ParseSpec, size};
 
 impl Byte {
     /// Parses a size from a string, as [`Byte::parse_str`] does, except that a decimal prefix means the binary one:
@@ -27,7 +27,7 @@ impl Byte {
     pub fn parse_str_binary(s: &str, ignore_case: bool) -> Result<Byte, ParseError>
         ensures { IsBinaryReading InBytes ignore_case s.now result }
     {
-        let size = size::parse::<true>(s, ignore_case, Kind::Byte)?;
+        let size = size::parse(s, ParseSpec::BINARY_BYTES.ignoring_case(ignore_case))?;
         Ok(Byte { size })
     }
 
@@ -43,7 +43,7 @@ impl Byte {
     pub fn parse_bytes_binary(bytes: &[u8], ignore_case: bool) -> Option<Result<Byte, ParseError>>
         ensures { IsBinaryBytesReading InBytes ignore_case bytes.now result }
     {
-        match size::parse_bytes::<true>(bytes, ignore_case, Kind::Byte)? {
+        match size::parse_bytes(bytes, ParseSpec::BINARY_BYTES.ignoring_case(ignore_case))? {
             Ok(size) => Some(Ok(Byte { size })),
             Err(error) => Some(Err(error)),
         }

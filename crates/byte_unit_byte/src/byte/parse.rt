@@ -6,7 +6,7 @@ ghost use Rattle.byte_unit_base.specs.SizeReading.{IsSizeReading, IsBytesReading
 ghost use Rattle.byte_unit_base.specs.declared.kind.Kind.TheVariants.{Byte as InBytes};
 
 use super::Byte;
-use byte_unit_base::{Kind, ParseError, size};
+use byte_unit_base::{ParseError, ParseSpec, size};
 
 impl Byte {
     /// Parses a size from a string, rounded up to a whole byte. Does not allocate.
@@ -40,7 +40,7 @@ impl Byte {
     pub fn parse_str(s: &str, ignore_case: bool) -> Result<Byte, ParseError>
         ensures { IsSizeReading InBytes ignore_case s.now result }
     {
-        let size = size::parse::<false>(s, ignore_case, Kind::Byte)?;
+        let size = size::parse(s, ParseSpec::BYTES.ignoring_case(ignore_case))?;
         Ok(Byte { size })
     }
 
@@ -83,7 +83,7 @@ impl Byte {
         requires { IsLine bytes.now len }
         ensures { IsBytesReading InBytes ignore_case (take len bytes.now) result }
     {
-        match size::parse_line::<false>(bytes, len, ignore_case, Kind::Byte)? {
+        match size::parse_line(bytes, len, ParseSpec::BYTES.ignoring_case(ignore_case))? {
             Ok(size) => Some(Ok(Byte { size })),
             Err(error) => Some(Err(error)),
         }

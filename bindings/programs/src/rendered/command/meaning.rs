@@ -3,10 +3,10 @@
 //! What the values of the options of a call mean.
 
 use crate::rendered::command::field_list::{FieldList, positive_of};
-use crate::rendered::command::options::{Form, Invalid, Kind, Options, Separator, Unit, UnitType};
-use crate::rendered::command::size::explain;
+use crate::rendered::command::options::{Form, Invalid, Kind, Options, ParseSpec, Separator, Unit, UnitType};
 use crate::rendered::command::values::Values;
 use crate::rendered::command::wrong::{ValueError, Wrong};
+use byte_unit::rendered::base::size;
 use byte_unit::rendered::math::DECIMAL_PLACES;
 
 /// The value of `--padding`.
@@ -25,7 +25,6 @@ pub(crate) struct Padding {
 /// Returns the first option that is wrong, in the order of `--from`, `--to`, `--precision`, `--no-unit`, `--delimiter`,
 /// `--field`, `--padding`, `--invalid`, `--max` and `--min`.
 pub fn options_of<'a>(values: &Values<'a>, fields: Option<&'a FieldList>) -> Result<Options<'a>, Wrong<'a>> {
-    let kind = values.kind;
     let binary = from_of(values.from)?;
     let given = form_of(values)?;
     let form = output_form(values.no_unit, given)?;
@@ -33,14 +32,13 @@ pub fn options_of<'a>(values: &Values<'a>, fields: Option<&'a FieldList>) -> Res
     let fields = listed(values, fields)?;
     let padding = padding_of(values.padding)?;
     let invalid = invalid_of(values.invalid)?;
-    let max = limit_of("--max", values.max, binary, kind, values.ignore_case)?;
-    let min = limit_of("--min", values.min, binary, kind, values.ignore_case)?;
+    let spec = ParseSpec { kind: values.kind, ignore_case: values.ignore_case, binary };
+    let max = limit_of("--max", values.max, spec)?;
+    let min = limit_of("--min", values.min, spec)?;
     let header = values.header.unwrap_or(0);
     let output_end = if values.zero_terminated { 0 } else { b'\n' };
     Ok(Options {
-        kind,
-        ignore_case: values.ignore_case,
-        binary,
+        spec,
         form,
         precision: match values.precision {
             Some(precision) => Some(precision),
@@ -244,17 +242,11 @@ fn invalid_of(value: Option<&str>) -> Result<Invalid, Wrong<'_>> {
 /// # Errors
 ///
 /// Returns an error if the value is not a size.
-fn limit_of<'a>(
-    option: &'static str,
-    value: Option<&'a str>,
-    binary: bool,
-    kind: Kind,
-    ignore_case: bool,
-) -> Result<Option<u128>, Wrong<'a>> {
+fn limit_of<'a>(option: &'static str, value: Option<&'a str>, spec: ParseSpec) -> Result<Option<u128>, Wrong<'a>> {
     let Some(value) = value else {
         return Ok(None);
     };
-    match explain(binary, kind, ignore_case, value.as_bytes()) {
+    match size::explain(value.as_bytes(), spec) {
         Some(Ok(size)) => Ok(Some(size)),
         Some(Err(error)) => Err(wrong(option, value, ValueError::Size(error))),
         // Never: a string is UTF-8.

@@ -5,8 +5,8 @@
 use crate::rattle::alloc::{AllocError, Allocator};
 use crate::rattle::{String, Vec};
 use crate::rendered::command::options::{Invalid, Options};
-use crate::rendered::command::size::{explain, without_suffix};
-use byte_unit::rendered::base::{LocatedError, Quoted};
+use crate::rendered::command::size::without_suffix;
+use byte_unit::rendered::base::{LocatedError, Quoted, size};
 
 /// The context of a record: what says how its fields are converted, and where they are.
 #[derive(Clone, Copy)]
@@ -74,7 +74,7 @@ fn tells_rejected(invalid: Invalid) -> bool {
 /// Precondition: the field is not a size.
 fn reason_of(options: &Options, field: &[u8]) -> FieldError {
     let text = without_suffix(options.suffix, field);
-    match explain(options.binary, options.kind, options.ignore_case, text) {
+    match size::explain(text, options.spec) {
         Some(Err(error)) => FieldError::Rejected(error),
         // Never: a field that is parsed as a size is one.
         Some(Ok(_)) => FieldError::NotUtf8,

@@ -3,7 +3,7 @@
 //! What a call of the program is to do.
 
 use crate::rendered::command::field_list::FieldList;
-pub use byte_unit::rendered::base::{Kind, Unit};
+pub use byte_unit::rendered::base::{Kind, ParseSpec, Unit};
 pub use byte_unit::rendered::choice::UnitType;
 
 /// How a size is formatted.
@@ -56,12 +56,8 @@ pub struct FieldRange {
 /// The options of a call.
 #[derive(Debug, Clone, Copy)]
 pub struct Options<'a> {
-    /// Whether sizes are in bytes or in bits.
-    pub kind: Kind,
-    /// Whether case is ignored in sizes in bytes.
-    pub ignore_case: bool,
-    /// Whether a decimal prefix in a size means the binary one, so that `K` is 1024.
-    pub binary: bool,
+    /// How a size is read.
+    pub spec: ParseSpec,
     /// How a size is formatted.
     pub form: Form,
     /// The number of digits after the point: at most this many in the exact form (3 for `None`), and exactly this many

@@ -2,29 +2,14 @@
 
 //! Reads one size of either kind.
 
-use crate::rendered::command::options::{Kind, Options};
+use crate::rendered::command::options::{Kind, Options, ParseSpec};
 use byte_unit::rendered::base::ParseError;
-use byte_unit::rendered::base::{LocatedError, size};
+use byte_unit::rendered::base::size;
 use std::str;
 
-/// Parses a field, without the suffix of the options, as a size of their kind. Returns `None` if it is not UTF-8.
+/// Parses a field, without the suffix of the options, as a size. Returns `None` if it is not UTF-8.
 pub(crate) fn parse(options: &Options, field: &[u8]) -> Option<Result<u128, ParseError>> {
-    let text = without_suffix(options.suffix, field);
-    if options.binary {
-        size::parse_bytes::<true>(text, options.ignore_case, options.kind)
-    } else {
-        size::parse_bytes::<false>(text, options.ignore_case, options.kind)
-    }
-}
-
-/// Parses a size of a kind, for a message: with the location of the error. A decimal prefix means the binary one if
-/// `binary` is set. Returns `None` if the text is not UTF-8.
-pub(crate) fn explain(binary: bool, kind: Kind, ignore_case: bool, text: &[u8]) -> Option<Result<u128, LocatedError>> {
-    if binary {
-        size::explain::<true>(text, ignore_case, kind)
-    } else {
-        size::explain::<false>(text, ignore_case, kind)
-    }
+    size::parse_bytes(without_suffix(options.suffix, field), options.spec)
 }
 
 /// Returns the text before the suffix, after which there may be white space, or the text itself if it does not end with
@@ -56,7 +41,7 @@ const NO_SIZE: u128 = 1 << 127;
 /// Returns the size that a field represents, or `None` if it is not a size.
 #[inline(always)]
 pub(crate) fn accepted(options: &Options, field: &[u8]) -> Option<u128> {
-    let size = if options.suffix.is_empty() && !options.binary {
+    let size = if options.suffix.is_empty() && !options.spec.binary {
         plain_size(options, field)
     } else {
         special_size(options, field)
@@ -69,13 +54,14 @@ pub(crate) fn accepted(options: &Options, field: &[u8]) -> Option<u128> {
 /// Precondition: the options read prefixes as they are.
 #[inline(never)]
 fn plain_size(options: &Options, text: &[u8]) -> u128 {
-    match options.kind {
-        Kind::Byte => match size::parse_bytes::<false>(text, options.ignore_case, Kind::Byte) {
+    let ignore_case = options.spec.ignore_case;
+    match options.spec.kind {
+        Kind::Byte => match size::parse_bytes(text, ParseSpec::BYTES.ignoring_case(ignore_case)) {
             Some(Ok(size)) => size,
             Some(Err(_)) => NO_SIZE,
             None => NO_SIZE,
         },
-        Kind::Bit => match size::parse_bytes::<false>(text, options.ignore_case, Kind::Bit) {
+        Kind::Bit => match size::parse_bytes(text, ParseSpec::BITS.ignoring_case(ignore_case)) {
             Some(Ok(size)) => size,
             Some(Err(_)) => NO_SIZE,
             None => NO_SIZE,

@@ -87,7 +87,7 @@ fn add_spaces<A: Allocator>(count: usize, text: &mut Vec<u8, A>) -> Result<(), A
 /// Preconditions: `size` is less than 10^30, and `out` has capacity for any text.
 #[inline(always)]
 fn write_size(options: &Options, size: u128, out: &mut [u8]) -> usize {
-    match options.kind {
+    match options.spec.kind {
         Kind::Byte => write_as::<false>(options, size, out),
         Kind::Bit => write_as::<true>(options, size, out),
     }
@@ -100,7 +100,7 @@ fn write_size(options: &Options, size: u128, out: &mut [u8]) -> usize {
 fn write_as<const BITS: bool>(options: &Options, size: u128, out: &mut [u8]) -> usize {
     let kind = kind_by_flag(BITS);
     match options.form {
-        Form::Exact if options.binary => {
+        Form::Exact if options.spec.binary => {
             let spec = binary_spec(size, kind, options.precision);
             write_text(size, kind, spec, out)
         }

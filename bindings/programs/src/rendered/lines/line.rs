@@ -5,7 +5,7 @@
 use crate::rattle::Vec;
 use crate::rattle::alloc::{AllocError, Allocator};
 use byte_unit::rendered::base::size::parse_line;
-use byte_unit::rendered::base::{Kind, ParseError, ValueParseError};
+use byte_unit::rendered::base::{Kind, ParseError, ParseSpec, ValueParseError};
 use byte_unit::rendered::format::write_with_digits;
 
 /// A bound on the length in bytes of an answer: two strings of at most 37 bytes, ` = ` between them, and the line end.
@@ -33,21 +33,20 @@ pub(crate) fn add_answer<A: Allocator>(
 
 /// Does what [`add_answer`] does, with a size in bits if `BITS`, and else in bytes.
 ///
-/// A function that takes the kind as an argument takes more instructions. Rejected lines take more if the arm for
-/// errors comes after that for sizes.
+/// The kind is a constant for the row `1.5 KiB` of lines in docs/SPEED.md, and the arm for errors comes before that for
+/// sizes for the row `rejected lines`.
 fn add_answer_of<const BITS: bool, A: Allocator>(
     bytes: &[u8],
     len: usize,
     out: &mut Vec<u8, A>,
 ) -> Result<(), AllocError> {
-    let kind = if BITS { Kind::Bit } else { Kind::Byte };
-    // Prefixes mean what they say (`::<false>`), and case counts.
-    match parse_line::<false>(bytes, len, false, kind) {
+    let spec = if BITS { ParseSpec::BITS } else { ParseSpec::BYTES };
+    match parse_line(bytes, len, spec) {
         None => out.extend_from_slice(b"not text\n"),
         Some(Err(error)) => out.extend_from_slice(fault_line_of(&error)),
         Some(Ok(size)) => {
             let mut answer = [0; ANSWER_MAX];
-            let end = write_with_digits(size, kind, *b" = ", &mut answer);
+            let end = write_with_digits(size, spec.kind, *b" = ", &mut answer);
             answer[end] = b'\n';
             out.extend_from_slice(&answer[..end + 1])
         }

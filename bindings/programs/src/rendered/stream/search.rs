@@ -8,11 +8,11 @@ use byte_unit::support::lanes::*;
 const LANES: usize = 16;
 
 /// Returns the index of the first end byte, or `None` if there is none.
-// Inlined: the call would take 40 instructions more for each record.
+// Inlined for the row `1.5 KiB` of lines in docs/SPEED.md.
 #[inline(always)]
 pub fn end_of(bytes: &[u8], end: u8) -> Option<usize> {
     let mut i = 0;
-    // Where a record ends cannot be predicted: a mask finds it with one branch per 16 bytes, not one per byte.
+    // A mask finds it with one branch for 16 bytes, for the row `mix` of docs/SPEED.md.
     while bytes.len() - i >= LANES {
         let ends = u8x16::from_slice(&bytes[i..]).simd_eq(u8x16::splat(end)).to_bitmask();
         if ends != 0 {

@@ -2,7 +2,7 @@
 
 //! The errors of the parsers and of conversions to sizes.
 
-use crate::rendered::base::unit::scan::Expected;
+use crate::rendered::base::stop::Expected;
 use crate::rendered::math::Decimal;
 use core::error::Error;
 use core::fmt;

@@ -2,7 +2,7 @@
 
 //! Texts as messages quote them.
 
-use crate::rendered::base::read::stop::begins_character;
+use crate::rendered::base::stop::begins_character;
 use core::{fmt, str};
 
 /// The most bytes of a text that a message quotes, so that a message about a long text is short.

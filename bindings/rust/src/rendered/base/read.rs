@@ -1,16 +1,27 @@
 // Rendered from crates/byte_unit_base/src/read.rt by `tools/dev render rust`. Do not edit.
 
-//! The parser of a number and a unit in a string, and a test that bytes have nothing to trim.
+//! Parses a number and a unit: from bytes that are not trimmed, and then, if that stops, from the trimmed string.
 
-use crate::rendered::base::read::number::read_number_and_unit;
-use crate::rendered::base::read::stop::{Stop, error_at};
-use crate::rendered::base::unit::scan::Flags;
+use crate::rendered::base::read::digits::read_number;
+use crate::rendered::base::read::unit::read_unit;
+use crate::rendered::base::spec::Flags;
+use crate::rendered::base::stop::{ByteStop, Reason, Stop, error_at, first_ascii};
 use crate::rendered::base::{ParseError, Unit};
 use crate::rendered::math::Decimal;
+use core::str;
 
-pub(crate) mod number;
-pub(crate) mod stop;
-mod value;
+mod digits;
+mod load;
+pub(crate) mod unit;
+
+/// A number of a unit.
+#[derive(Clone, Copy)]
+pub struct Measure {
+    /// The unit.
+    pub unit: Unit,
+    /// The number.
+    pub number: Decimal,
+}
 
 /// Parses a number and a unit from a string. White space at its ends is ignored.
 ///
@@ -41,13 +52,13 @@ mod value;
 /// ```
 #[inline(always)]
 pub fn read_size(s: &str, ignore_case: bool, prefer_byte: bool) -> Result<(Decimal, Unit), ParseError> {
-    let flags = Flags { ignore_case, prefer_byte };
+    let flags = Flags::new(ignore_case, prefer_byte);
     let text = trimmed(s);
     let bytes = text.as_bytes();
     match read_number_and_unit::<true>(bytes, bytes, flags) {
-        Ok(found) => Ok((found.1, found.0)),
+        Ok(found) => Ok((found.number, found.unit)),
         Err(stop) => {
-            let next = crate::support::char_at(text, stop.place);
+            let next = crate::support::char_at(text, stop.index);
             Err(error_at(stop.reason, next, flags))
         }
     }
@@ -55,22 +66,118 @@ pub fn read_size(s: &str, ignore_case: bool, prefer_byte: bool) -> Result<(Decim
 
 /// Parses a number and a unit as [`read_size`] does, and leaves the error to be made by [`error_at`].
 ///
-/// `read_size` does not call it: a result for both cases would be in memory, for some 10 instructions more per string.
+/// `read_size` does not call it, for the row `parse 1.5 KiB` of docs/SPEED.md.
 ///
 /// # Errors
 /// Returns where the parser stops in the string, and why.
 #[inline(always)]
-pub(crate) fn read_or_stop(s: &str, flags: Flags) -> Result<(Unit, Decimal), Stop> {
+pub(crate) fn read_or_stop(s: &str, flags: Flags) -> Result<Measure, Stop<Reason>> {
     let text = trimmed(s);
     let bytes = text.as_bytes();
     match read_number_and_unit::<true>(bytes, bytes, flags) {
         Ok(found) => Ok(found),
         Err(stop) => Err(Stop {
             reason: stop.reason,
-            next: crate::support::char_at(text, stop.place),
-            index: leading_len(s) + stop.place,
+            next: crate::support::char_at(text, stop.index),
+            index: leading_len(s) + stop.index,
         }),
     }
+}
+
+/// Parses the number and the unit of a size from the string that the bytes are, trimmed. Returns `None` if the bytes
+/// are not UTF-8.
+///
+/// What is accepted as it is, without a test for UTF-8, is ASCII. It starts with a digit, and ends in spaces only after
+/// a number without a unit, where the grammar allows them, so it is the same when trimmed.
+///
+/// # Errors
+/// Returns where the parser stops in the string: [`error_at`] makes the error of it.
+///
+/// # Examples
+/// ```
+/// # use byte_unit::rendered::{base::{size::parse_line, *}, bit::*, byte::*, choice::*, format::*, math::*};
+/// let stopped = read_text(b" 1 Kx ", ParseSpec::BYTES.flags());
+/// assert!(matches!(stopped, Some(Err(Stop { next: Some('x'), index: 4, .. }))));
+/// ```
+#[inline(always)]
+pub fn read_text(bytes: &[u8], flags: Flags) -> Option<Result<Measure, Stop<Reason>>> {
+    match read_number_and_unit::<true>(bytes, bytes, flags) {
+        Ok(found) => Some(Ok(found)),
+        Err(stop) => match visible_next(bytes, stop.index) {
+            Some(next) => Some(Err(Stop { reason: stop.reason, next, index: stop.index })),
+            // Taken apart for the row `parse 1 byte` of docs/SPEED.md.
+            None => match read_string(bytes, flags)? {
+                Ok(found) => Some(Ok(found)),
+                Err(stop) => Some(Err(stop)),
+            },
+        },
+    }
+}
+
+/// Parses as `read_text`, from the string that the bytes are, trimmed.
+#[cold]
+#[inline(never)]
+fn read_string(bytes: &[u8], flags: Flags) -> Option<Result<Measure, Stop<Reason>>> {
+    let string = str::from_utf8(bytes).ok()?;
+    Some(read_or_stop(string, flags))
+}
+
+/// Parses a number and a unit from a line, which is not trimmed. The line is at the
+/// beginning of `bytes`: eight of them are loaded at once where eight are left, past the end of the line too.
+///
+/// `ALONE` is true if the line is all of `bytes`. The result is the same either way; if it is true, a loop reads the
+/// digits where fewer than eight bytes are left.
+///
+/// # Errors
+/// Returns where it stops.
+#[inline(always)]
+pub fn read_number_and_unit<const ALONE: bool>(
+    line: &[u8],
+    bytes: &[u8],
+    flags: Flags,
+) -> Result<Measure, ByteStop<Reason>> {
+    match read_number::<ALONE>(line, bytes) {
+        Ok(found) => {
+            let (end, number) = found;
+            let start = end + leading_spaces(&line[end..]);
+            match read_unit(line, bytes, start, flags) {
+                Ok(unit) => Ok(Measure { unit, number }),
+                Err(stop) => Err(ByteStop { index: start + stop.index, reason: Reason::InUnit(stop.reason) }),
+            }
+        }
+        Err(stop) => Err(ByteStop { index: stop.index, reason: Reason::InNumber(stop.reason) }),
+    }
+}
+
+/// Returns the number of leading spaces.
+pub fn leading_spaces(bytes: &[u8]) -> usize {
+    let mut count = 0;
+    while count < bytes.len() && bytes[count] == b' ' {
+        count += 1;
+    }
+    count
+}
+
+/// Returns the character at an index, or `Some(None)` at the end, of bytes that have nothing to trim and are ASCII from
+/// there on. Returns `None` if they may not be so.
+#[inline(always)]
+fn visible_next(bytes: &[u8], index: usize) -> Option<Option<char>> {
+    if has_visible_ends(bytes) && is_ascii_from(bytes, index) { Some(first_ascii(&bytes[index..])) } else { None }
+}
+
+/// Returns what `visible_next` does, by a call of its own for the row `1.5 KiB` of lines in docs/SPEED.md.
+#[cold]
+#[inline(never)]
+pub(crate) fn next_in_line(line: &[u8], index: usize) -> Option<Option<char>> {
+    visible_next(line, index)
+}
+
+/// Returns whether the bytes from an index on are ASCII. If these are at most four, the last four bytes are tested at
+/// once: then it returns `false` also if one of those four is before the index and not ASCII.
+#[inline(always)]
+fn is_ascii_from(bytes: &[u8], from: usize) -> bool {
+    let len = bytes.len();
+    if len >= 4 && len - from <= 4 { bytes[len - 4..].is_ascii() } else { bytes[from..].is_ascii() }
 }
 
 /// Returns the number of bytes of the white space at the start of a string.

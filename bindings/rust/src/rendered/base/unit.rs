@@ -2,12 +2,10 @@
 
 //! The units of bits and bytes: their names, their bits and their prefixes.
 
-use crate::rendered::base::Kind;
-use crate::rendered::base::read::number::unit_of;
+use crate::rendered::base::read::unit::unit_of;
 use crate::rendered::base::unit::tables::{UNIT_BITS, UNITS};
 
 pub(crate) mod parse;
-pub(crate) mod scan;
 pub(crate) mod tables;
 
 /// A unit of bits or bytes, with a decimal (SI) prefix, with a binary (IEC) prefix, or without one.
@@ -211,21 +209,4 @@ impl From<Unit> for u128 {
     fn from(unit: Unit) -> u128 {
         unit.as_bits_u128()
     }
-}
-
-/// Returns the unit of the kind with the binary (IEC) or the decimal (SI) prefix of a position, from 1 for K to 9 for
-/// R.
-///
-/// Precondition: `1 <= power` and `power <= 9`.
-///
-/// # Examples
-/// ```
-/// # use byte_unit::rendered::{base::{size::parse_line, *}, bit::*, byte::*, choice::*, format::*, math::*};
-/// use byte_unit::{Bit, Byte, Unit};
-///
-/// assert_eq!(unit_with_prefix(1, true, Kind::Byte), Unit::KiB);
-/// assert_eq!(unit_with_prefix(9, false, Kind::Bit), Unit::Rbit);
-/// ```
-pub fn unit_with_prefix(power: u32, binary: bool, kind: Kind) -> Unit {
-    unit_of(power as usize, binary, matches!(kind, Kind::Bit))
 }

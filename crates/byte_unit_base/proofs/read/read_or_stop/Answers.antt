@@ -20,17 +20,17 @@ returns-in-Ok c =
     let flags = c.args.flags in
     let found = c.in-Ok.found in
     let text = rw c.as_bytes-bytes.ensures.value at c.in-Ok.ensures in
-    number_reading flags c.args.s.now (Ok (found.1, found.0))
-    (rw c.trimmed-text.ensures at (size_of_chars flags c.trimmed-text.result.now found.1 (shape_of found.0) text))
+    number_reading flags c.args.s.now (Ok (found.number, found.unit))
+    (rw c.trimmed-text.ensures at (size_of_chars flags c.trimmed-text.result.now found.number (shape_of found.unit) text))
 
 -- the parser stops in the string where it stops in the trimmed string
 pub returns-in-Err : goal.returns-in-Err
 returns-in-Err c =
     let stop = c.in-Err.stop in
-    let stops = subst (λ text. IsStopAt c.args.flags text stop.place stop.reason) c.as_bytes-bytes.ensures.value
+    let stops = subst (λ text. IsStopAt c.args.flags text stop.index stop.reason) c.as_bytes-bytes.ensures.value
     c.in-Err.ensures in
     let utf8 = subst IsUtf8 c.as_bytes-bytes.ensures.value c.as_bytes-bytes.ensures.utf8 in
-    stop_in_string c.args.flags c.args.s.now c.trimmed-text.result.now stop.place _ stop.reason _ c.utf8.s
+    stop_in_string c.args.flags c.args.s.now c.trimmed-text.result.now stop.index _ stop.reason _ c.utf8.s
     c.trimmed-text.ensures utf8 stops
     (c.first_char.ensures ∙ ap (λ rest. next_char (chars rest)) c.range_from.ensures.value)
-    (ap (λ start. start + stop.place) c.leading_len.ensures.start)
+    (ap (λ start. start + stop.index) c.leading_len.ensures.start)

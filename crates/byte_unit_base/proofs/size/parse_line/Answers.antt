@@ -1,7 +1,6 @@
 -- The first bytes are a line with which the bytes begin, and its number and unit are those of the string. If it is
 -- visible ASCII, the parser stops in the string where it stops in the line.
-use Rattle.std.proofs.Common.{take, eqb, not}
-use Rattle.byte_unit_base.specs.BinaryReading.{unit_meant}
+use Rattle.std.proofs.Common.{take}
 use Rattle.byte_unit_base.specs.Kinds.{flags_for}
 use Rattle.byte_unit_base.specs.ParserEnds.{IsStopAt}
 use Rattle.byte_unit_base.proofs.Lines.{first_line}
@@ -10,25 +9,25 @@ use Rattle.byte_unit_base.proofs.SizeOfText.{bytes_number, reading_of_fault}
 use Rattle.byte_unit_base.proofs.size.parse_line.Goals as goal
 
 pub read_number_and_unit-requires : goal.read_number_and_unit-requires
-read_number_and_unit-requires g c = first_line c.args.bytes.now c.args.len c.requires
+read_number_and_unit-requires c = first_line c.args.bytes.now c.args.len c.requires
 
 pub returns-in-Ok-clause-reading : goal.returns-in-Ok-clause-reading
-returns-in-Ok-clause-reading g c =
+returns-in-Ok-clause-reading c =
     let found = c.in-Ok.found in
     let line = take c.args.len c.args.bytes.now in
-    let number = bytes_number (flags_for c.args.kind c.args.ignore_case) line found.1 found.0
-    (rw c.flags_for-flags.ensures at c.in-Ok.ensures) in
-    (number.0, c.size_of.ensures.reading c.args.ignore_case _ number.1)
+    let number = bytes_number (flags_for c.args.spec.kind c.args.spec.ignore_case) line found.number found.unit
+    (rw c.flags-flags.ensures at c.in-Ok.ensures) in
+    (number.0, c.size_of.ensures.reading _ number.1)
 
 pub returns-in-Some-clause-reading : goal.returns-in-Some-clause-reading
-returns-in-Some-clause-reading g c =
+returns-in-Some-clause-reading c =
     let line = take c.args.len c.args.bytes.now in
-    let flags = flags_for c.args.kind c.args.ignore_case in
-    let stop : IsStopAt flags line c.in-Err.stop.place c.in-Err.stop.reason =
-    rw c.flags_for-flags.ensures at c.in-Err.ensures in
-    let is = stop_in_visible flags line c.in-Err.stop.place c.in-Err.stop.reason c.in-Some.next c.in-Some.ensures stop in
-    let error_is = rw c.flags_for-flags.ensures at c.error_at.ensures in (
+    let flags = flags_for c.args.spec.kind c.args.spec.ignore_case in
+    let stop : IsStopAt flags line c.in-Err.stop.index c.in-Err.stop.reason =
+    rw c.flags-flags.ensures at c.in-Err.ensures in
+    let is = stop_in_visible flags line c.in-Err.stop.index c.in-Err.stop.reason c.in-Some.next c.in-Some.ensures stop in
+    let error_is = rw c.flags-flags.ensures at c.error_at.ensures in (
       is.utf8,
-      reading_of_fault (unit_meant (not (eqb g.row.BINARY 0))) c.args.kind c.args.ignore_case line c.error_at.result
+      reading_of_fault c.args.spec line c.error_at.result
           (is.reading c.error_at.result error_is),
     )

@@ -23,5 +23,5 @@ returns-in-Some-Err c =
     let reading = rw c.unit_flags-flags.ensures at (stops.0 written.0 written.1) in (
       Some (Err written.0),
       (c.in-Some-Err.ensures.0, reading),
-      (refl, (c.in-Some-Err.stopped.2, stops.1, written.2), refl),
+      (refl, (c.in-Some-Err.stop.index, stops.1, written.2), refl),
     )

@@ -7,20 +7,20 @@ use Rattle.byte_unit_c.proofs.parse.write_size.Goals as goal
 
 -- the size is written
 pub returns-in-Ok : goal.returns-in-Ok
-returns-in-Ok g c = λ bytes utf8 reading. (
+returns-in-Ok c = λ bytes utf8 reading. (
   Some (Ok c.in-Ok.in_kind),
-  (utf8, c.in-Ok.ensures.reading c.args.asked.ignore_case bytes reading),
+  (utf8, c.in-Ok.ensures.reading bytes reading),
   (refl, c.new.ensures, refl),
 )
 
 -- the number is written, with the position 0
 pub returns-in-Err : goal.returns-in-Err
-returns-in-Err g c = λ bytes utf8 reading.
+returns-in-Err c = λ bytes utf8 reading.
     let excess = sym (ap size_fault c.in-Err.ensures.excess) in
     let written = subst
     (λ fault. IsErrorWritten (IsSizePosition bytes) fault c.args.errors.now c.write_value.new.errors) excess
     (0, refl, c.write_value.ensures.written) in (
       Some (Err c.in-Err.field-0),
-      (utf8, c.in-Err.ensures.reading c.args.asked.ignore_case bytes reading),
+      (utf8, c.in-Err.ensures.reading bytes reading),
       (c.write_value.ensures.code ∙ ap code_of excess, written, refl),
     )

@@ -13,7 +13,7 @@ returns-then-size-ge-NO_SIZE-clause-none c =
     elim c.if-is_empty.branch [
       | then-is_empty+then-not-options w ↦
           let none = empty_from_length suffix (length suffix) refl w.if-is_empty.ensures in
-          subst (λ (suffix : List ℕ). IsNoSizeBy options (without_suffix suffix c.args.field.now)) (sym none)
+          subst (λ (suffix : List ℕ). IsNoSizeBy options.spec (without_suffix suffix c.args.field.now)) (sym none)
           (w.plain_size-size.ensures.none (omega (arith, w.size-is, c.if-size-ge-NO_SIZE.true)))
       | else-is_empty w ↦ w.special_size-size.ensures.none (omega (arith, w.size-is, c.if-size-ge-NO_SIZE.true))
     ]

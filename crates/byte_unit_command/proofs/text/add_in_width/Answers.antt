@@ -12,7 +12,7 @@ use Rattle.byte_unit_command.proofs.text.add_in_width.Goals as goal
 
 -- what `add_padded` has appended is the formatted size
 with_padding : (options : Options) (width size len : ℕ) (bytes old new : List ℕ)
-    → BeginsWithForm (IsFormText options.binary options.kind options.form options.precision size) bytes len
+    → BeginsWithForm (IsFormText options.spec.binary options.spec.kind options.form options.precision size) bytes len
     → new ≡ old ++ padded width options.align_left (take len bytes ++ options.suffix.now)
     → (formatted : List ℕ) × IsFormatted (record options { width = width }) size formatted × (new ≡ old ++ formatted)
 with_padding options width size len bytes old new written added =

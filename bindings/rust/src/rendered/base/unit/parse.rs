@@ -3,8 +3,9 @@
 //! The parser of a unit in a string.
 
 use crate::rendered::base::read::leading_len;
-use crate::rendered::base::read::number::read_unit;
-use crate::rendered::base::unit::scan::{Flags, UnitStop};
+use crate::rendered::base::read::unit::read_unit;
+use crate::rendered::base::spec::Flags;
+use crate::rendered::base::stop::{Stop, UnitStop};
 use crate::rendered::base::{Unit, UnitParseError};
 use core::str::FromStr;
 
@@ -33,13 +34,10 @@ impl Unit {
     /// ```
     pub fn parse_str<S: AsRef<str>>(s: S, ignore_case: bool, prefer_byte: bool) -> Result<Unit, UnitParseError> {
         let s = s.as_ref();
-        let flags = Flags { ignore_case, prefer_byte };
+        let flags = Flags::new(ignore_case, prefer_byte);
         match read_unit_text(s, flags) {
             Ok(unit) => Ok(unit),
-            Err(stopped) => {
-                let (stop, next, _) = stopped;
-                Err(stop.error_before(next, flags))
-            }
+            Err(stop) => Err(stop.reason.error_before(stop.next, flags)),
         }
     }
 
@@ -62,7 +60,7 @@ impl Unit {
         let s = s.as_ref();
         match read_unit_text(s, Flags::ANY) {
             Ok(_) => None,
-            Err(stopped) => Some(stopped.2),
+            Err(stop) => Some(stop.index),
         }
     }
 }
@@ -70,28 +68,29 @@ impl Unit {
 /// Parses a unit as [`Unit::parse_str`] does, and leaves the error to be made by [`UnitStop::error_before`].
 ///
 /// # Errors
-/// Returns what was read before the parser stops, the character there, or `None` at the end, and the position, as
-/// [`Unit::error_position`] returns it.
+/// Returns where the parser stops in the string, at the index that [`Unit::error_position`] returns, and what was read
+/// before.
 ///
 /// # Examples
 /// ```
 /// # use byte_unit::rendered::{base::{size::parse_line, *}, bit::*, byte::*, choice::*, format::*, math::*};
-/// use byte_unit::{Byte, Unit};
+/// use byte_unit::Unit;
 ///
-/// let flags = size::flags_for(Kind::Byte, false);
+/// let flags = ParseSpec::BYTES.flags();
 /// assert!(matches!(read_unit_text("KiB", flags), Ok(Unit::KiB)));
-/// assert!(matches!(read_unit_text(" Kix", flags), Err((_, Some('x'), 3))));
+/// assert!(matches!(read_unit_text(" Kix", flags), Err(Stop { next: Some('x'), index: 3, .. })));
 /// ```
 #[inline(always)]
-pub fn read_unit_text(s: &str, flags: Flags) -> Result<Unit, (UnitStop, Option<char>, usize)> {
+pub fn read_unit_text(s: &str, flags: Flags) -> Result<Unit, Stop<UnitStop>> {
     let text = s.trim();
     let bytes = text.as_bytes();
     match read_unit(bytes, bytes, 0, flags) {
         Ok(found) => Ok(found),
-        Err(stop) => {
-            let next = crate::support::char_at(text, stop.1);
-            Err((stop.0, next, leading_len(s) + stop.1))
-        }
+        Err(stop) => Err(Stop {
+            reason: stop.reason,
+            next: crate::support::char_at(text, stop.index),
+            index: leading_len(s) + stop.index,
+        }),
     }
 }
 

@@ -2,8 +2,7 @@
 
 //! The table of prefixes, the tables of units that are made from it, and the positions of prefix letters by their byte.
 //!
-//! A lookup in a table is a load. LLVM makes a jump table of a `match` over the units, which is slower if the units
-//! change from one string to the next.
+//! They are tables, and not a `match` over the units, for the row `mix` of docs/SPEED.md.
 
 use crate::rendered::base::unit::{Shape, Unit, UnitData};
 

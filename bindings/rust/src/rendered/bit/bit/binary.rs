@@ -3,7 +3,7 @@
 //! Parsing of sizes in bits whose decimal prefixes mean binary ones.
 
 use super::Bit;
-use crate::rendered::base::{Kind, ParseError, size};
+use crate::rendered::base::{ParseError, ParseSpec, size};
 
 impl Bit {
     /// Parses a size from a string, as [`Bit::parse_str`] does, except that a decimal prefix means the binary one:
@@ -29,7 +29,7 @@ impl Bit {
     #[inline]
     pub fn parse_str_binary<S: AsRef<str>>(s: S) -> Result<Bit, ParseError> {
         let s = s.as_ref();
-        let size = size::parse::<true>(s, false, Kind::Bit)?;
+        let size = size::parse(s, ParseSpec::BINARY_BITS)?;
         Ok(Bit { size })
     }
 
@@ -47,7 +47,7 @@ impl Bit {
     /// ```
     #[inline]
     pub fn parse_bytes_binary(bytes: &[u8]) -> Option<Result<Bit, ParseError>> {
-        match size::parse_bytes::<true>(bytes, false, Kind::Bit)? {
+        match size::parse_bytes(bytes, ParseSpec::BINARY_BITS)? {
             Ok(size) => Some(Ok(Bit { size })),
             Err(error) => Some(Err(error)),
         }

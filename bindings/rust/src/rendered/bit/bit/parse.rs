@@ -3,7 +3,7 @@
 //! Parsing of sizes in bits.
 
 use super::Bit;
-use crate::rendered::base::{Kind, ParseError, size};
+use crate::rendered::base::{ParseError, ParseSpec, size};
 
 impl Bit {
     /// Parses a size from a string, rounded up to a whole bit. Does not allocate.
@@ -41,7 +41,7 @@ impl Bit {
     #[inline]
     pub fn parse_str<S: AsRef<str>>(s: S) -> Result<Bit, ParseError> {
         let s = s.as_ref();
-        let size = size::parse::<false>(s, false, Kind::Bit)?;
+        let size = size::parse(s, ParseSpec::BITS)?;
         Ok(Bit { size })
     }
 
@@ -72,7 +72,7 @@ impl Bit {
     /// feed, or there is none.
     #[inline(always)]
     pub(crate) fn parse_line(bytes: &[u8], len: usize) -> Option<Result<Bit, ParseError>> {
-        match size::parse_line::<false>(bytes, len, false, Kind::Bit)? {
+        match size::parse_line(bytes, len, ParseSpec::BITS)? {
             Ok(size) => Some(Ok(Bit { size })),
             Err(error) => Some(Err(error)),
         }

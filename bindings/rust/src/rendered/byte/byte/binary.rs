@@ -3,7 +3,7 @@
 //! Parsing of sizes in bytes whose decimal prefixes mean binary ones.
 
 use super::Byte;
-use crate::rendered::base::{Kind, ParseError, size};
+use crate::rendered::base::{ParseError, ParseSpec, size};
 
 impl Byte {
     /// Parses a size from a string, as [`Byte::parse_str`] does, except that a decimal prefix means the binary one:
@@ -30,7 +30,7 @@ impl Byte {
     #[inline]
     pub fn parse_str_binary<S: AsRef<str>>(s: S, ignore_case: bool) -> Result<Byte, ParseError> {
         let s = s.as_ref();
-        let size = size::parse::<true>(s, ignore_case, Kind::Byte)?;
+        let size = size::parse(s, ParseSpec::BINARY_BYTES.ignoring_case(ignore_case))?;
         Ok(Byte { size })
     }
 
@@ -48,7 +48,7 @@ impl Byte {
     /// ```
     #[inline]
     pub fn parse_bytes_binary(bytes: &[u8], ignore_case: bool) -> Option<Result<Byte, ParseError>> {
-        match size::parse_bytes::<true>(bytes, ignore_case, Kind::Byte)? {
+        match size::parse_bytes(bytes, ParseSpec::BINARY_BYTES.ignoring_case(ignore_case))? {
             Ok(size) => Some(Ok(Byte { size })),
             Err(error) => Some(Err(error)),
         }

@@ -3,7 +3,7 @@
 //! Parsing of sizes in bytes.
 
 use super::Byte;
-use crate::rendered::base::{Kind, ParseError, size};
+use crate::rendered::base::{ParseError, ParseSpec, size};
 
 impl Byte {
     /// Parses a size from a string, rounded up to a whole byte. Does not allocate.
@@ -41,7 +41,7 @@ impl Byte {
     #[inline]
     pub fn parse_str<S: AsRef<str>>(s: S, ignore_case: bool) -> Result<Byte, ParseError> {
         let s = s.as_ref();
-        let size = size::parse::<false>(s, ignore_case, Kind::Byte)?;
+        let size = size::parse(s, ParseSpec::BYTES.ignoring_case(ignore_case))?;
         Ok(Byte { size })
     }
 
@@ -72,7 +72,7 @@ impl Byte {
     /// feed, or there is none.
     #[inline(always)]
     pub(crate) fn parse_line(bytes: &[u8], len: usize, ignore_case: bool) -> Option<Result<Byte, ParseError>> {
-        match size::parse_line::<false>(bytes, len, ignore_case, Kind::Byte)? {
+        match size::parse_line(bytes, len, ParseSpec::BYTES.ignoring_case(ignore_case))? {
             Ok(size) => Some(Ok(Byte { size })),
             Err(error) => Some(Err(error)),
         }

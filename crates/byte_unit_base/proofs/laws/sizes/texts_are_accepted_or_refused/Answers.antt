@@ -1,7 +1,8 @@
 -- The law is the statement of a lemma.
-use Rattle.byte_unit_base.specs.Accepted.{as_written}
+use Rattle.std.proofs.Common.{false}
+use Rattle.byte_unit_base.specs.ParseSpec.{parse_spec}
 use Rattle.byte_unit_base.proofs.SizeOrFault.{accepted_or_refused}
 use Rattle.byte_unit_base.proofs.laws.sizes.texts_are_accepted_or_refused.Goals as goal
 
 pub returns : goal.returns
-returns c = accepted_or_refused as_written
+returns c = λ kind ignore_case. accepted_or_refused (parse_spec kind ignore_case false)

@@ -17,10 +17,10 @@ use Rattle.byte_unit_base.proofs.unit.parse.read_unit_text.Goals as goal
 pub range_from-requires : goal.range_from-requires
 range_from-requires c =
     let stop = c.in-Err.stop in
-    let stops = subst (λ text. IsUnitStop c.args.flags text stop.0 stop.1) c.as_bytes-bytes.ensures.value c.in-Err.ensures in
+    let stops = subst (λ text. IsUnitStop c.args.flags text stop.reason stop.index) c.as_bytes-bytes.ensures.value c.in-Err.ensures in
     let leads = stops.1 in
     let utf8 = subst IsUtf8 c.as_bytes-bytes.ensures.value c.as_bytes-bytes.ensures.utf8 in
-    λ _. boundary_at c.trim-text.result.now stop.1 utf8 leads.within (run_ascii _ start stops.0 leads.run_is)
+    λ _. boundary_at c.trim-text.result.now stop.index utf8 leads.within (run_ascii _ start stops.0 leads.run_is)
 
 -- the unit that the trimmed string spells is the reading of the whole string
 pub returns-in-Ok : goal.returns-in-Ok
@@ -37,9 +37,9 @@ returns-in-Ok c =
 pub returns-in-Err : goal.returns-in-Err
 returns-in-Err c =
     let stop = c.in-Err.stop in
-    let stops = subst (λ text. IsUnitStop c.args.flags text stop.0 stop.1) c.as_bytes-bytes.ensures.value c.in-Err.ensures in
+    let stops = subst (λ text. IsUnitStop c.args.flags text stop.reason stop.index) c.as_bytes-bytes.ensures.value c.in-Err.ensures in
     let utf8 = subst IsUtf8 c.as_bytes-bytes.ensures.value c.as_bytes-bytes.ensures.utf8 in
-    unit_stop_in_string c.args.flags c.args.s.now c.trim-text.result.now stop.1 _ stop.0 _
+    unit_stop_in_string c.args.flags c.args.s.now c.trim-text.result.now stop.index _ stop.reason _
     (ap chars c.trim-text.ensures.trim ∙ chars-trim c.args.s.now c.utf8.s) utf8 stops
-    (c.first_char-next.ensures ∙ ap (λ rest. next_char (chars rest)) c.range_from.ensures.value)
-    (ap (λ start. start + stop.1) c.leading_len.ensures.start)
+    (c.first_char.ensures ∙ ap (λ rest. next_char (chars rest)) c.range_from.ensures.value)
+    (ap (λ start. start + stop.index) c.leading_len.ensures.start)

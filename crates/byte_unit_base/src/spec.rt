@@ -1,0 +1,133 @@
+//! The options of the parsers: how a size is read, and how its unit is.
+
+ghost use Rattle.std.specs.Prelude.{◌≡◌};
+ghost use Rattle.byte_unit_base.specs.Kinds.{flags_for};
+ghost use Rattle.byte_unit_base.specs.ParseSpec.{parse_spec, unit_meant};
+ghost use Rattle.byte_unit_base.specs.Spelling.{flags_of};
+ghost use Rattle.byte_unit_base.specs.Units.{shape_of};
+
+use crate::{Kind, Unit};
+
+/// How a size is read from a string.
+///
+/// # Examples
+/// ```rust
+/// assert_eq!(rt; size::parse("9 b", ParseSpec::BYTES)?, 2);
+/// assert_eq!(rt; size::parse("9 b", ParseSpec::BITS)?, 9);
+/// assert_eq!(rt; size::parse("10m", ParseSpec::BINARY_BYTES)?, 10_485_760);
+/// ```
+#[derive(Debug, Clone, Copy, PartialEq, Eq)]
+pub struct ParseSpec {
+    /// The kind of the size, which is also that of a unit without a suffix.
+    pub kind: Kind,
+    /// Whether the suffix `b` means bytes, as `B` does. In sizes in bits it has no effect.
+    pub ignore_case: bool,
+    /// Whether a decimal prefix means the binary one, so that `K` is 1024.
+    pub binary: bool,
+}
+
+impl ParseSpec {
+    /// A size in bytes, as it is written.
+    pub const BYTES: ParseSpec = ParseSpec {
+        kind: Kind::Byte,
+        ignore_case: false,
+        binary: false,
+    };
+
+    /// A size in bytes, whose decimal prefixes mean binary ones.
+    pub const BINARY_BYTES: ParseSpec = ParseSpec {
+        binary: true,
+        ..ParseSpec::BYTES
+    };
+
+    /// A size in bits, as it is written.
+    pub const BITS: ParseSpec = ParseSpec {
+        kind: Kind::Bit,
+        ..ParseSpec::BYTES
+    };
+
+    /// A size in bits, whose decimal prefixes mean binary ones.
+    pub const BINARY_BITS: ParseSpec = ParseSpec {
+        kind: Kind::Bit,
+        ..ParseSpec::BINARY_BYTES
+    };
+
+    /// Returns this reading with case ignored, or significant.
+    ///
+    /// # Examples
+    /// ```rust
+    /// assert_eq!(rt; size::parse("9 b", ParseSpec::BYTES.ignoring_case(true))?, 9);
+    /// ```
+    #[inline(always)]
+    pub fn ignoring_case(self, ignore_case: bool) -> ParseSpec
+        ensures { result ≡ parse_spec self.kind ignore_case self.binary }
+    {
+        ParseSpec {
+            ignore_case,
+            ..self
+        }
+    }
+
+    /// Returns how the unit of the size is read. In sizes in bits case is significant.
+    ///
+    /// # Examples
+    /// ```rust
+    /// assert!(rt; ParseSpec::BYTES.ignoring_case(true).flags().ignore_case);
+    /// assert!(rt; !ParseSpec::BITS.ignoring_case(true).flags().ignore_case);
+    /// ```
+    #[inline]
+    pub fn flags(self) -> Flags
+        ensures { result ≡ flags_for self.kind self.ignore_case }
+    {
+        let prefer_byte = matches!(self.kind, Kind::Byte);
+        Flags::new(self.ignore_case && prefer_byte, prefer_byte)
+    }
+
+    /// Returns the unit that is meant where this one is written: if decimal prefixes mean binary ones its binary unit,
+    /// and else itself.
+    ///
+    /// # Examples
+    /// ```rust
+    /// assert_eq!(rt; ParseSpec::BYTES.unit_meant(Unit::KB), Unit::KB);
+    /// assert_eq!(rt; ParseSpec::BINARY_BYTES.unit_meant(Unit::KB), Unit::KiB);
+    /// ```
+    #[inline(always)]
+    pub fn unit_meant(self, unit: Unit) -> Unit
+        ensures { shape_of result ≡ unit_meant self (shape_of unit) }
+    {
+        if self.binary { unit.to_binary() } else { unit }
+    }
+}
+
+/// How a unit is read from a string.
+#[derive(Clone, Copy)]
+pub struct Flags {
+    /// Whether the suffix `b` means bytes.
+    pub ignore_case: bool,
+    /// Whether a unit without a suffix is of bytes.
+    pub prefer_byte: bool,
+}
+
+impl Flags {
+    /// Flags for a caller to which the unit does not matter: no flag changes where a string is wrong.
+    pub(crate) const ANY: Flags = Flags {
+        ignore_case: false,
+        prefer_byte: true,
+    };
+
+    /// Creates flags.
+    ///
+    /// # Examples
+    /// ```rust
+    /// assert!(rt; matches!(read_unit_text("Kb", Flags::new(true, false)), Ok(Unit::KB)));
+    /// ```
+    #[inline(always)]
+    pub fn new(ignore_case: bool, prefer_byte: bool) -> Flags
+        ensures { result ≡ flags_of ignore_case prefer_byte }
+    {
+        Flags {
+            ignore_case,
+            prefer_byte,
+        }
+    }
+}
