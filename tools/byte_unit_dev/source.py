@@ -224,8 +224,8 @@ def beside(name, code):
             found.append(file.removeprefix(f"{top}/"))
             waiting.append(read(file))
     while waiting:
-        for kind, module in re.findall(rf"Rattle\.{crate}\.(specs|proofs)\.(\w+)\.\{{", waiting.pop()):
-            file = f"{kind}/{module}.antt"
+        for kind, module in re.findall(rf"Rattle\.{crate}\.(specs|proofs)\.([\w.]+)\.\{{", waiting.pop()):
+            file = f"{kind}/{module.replace('.', '/')}.antt"
             if file not in found and os.path.exists(path(top, file)):
                 found.append(file)
                 waiting.append(read(f"{top}/{file}"))
@@ -291,20 +291,27 @@ def sources(crate):
 
 @functools.lru_cache(maxsize=None)
 def specs(crate):
-    """Returns the files of definitions of a crate, by module, in the order of its `Lib`, and then those not there."""
+    """Returns the files of definitions of a crate, by module, in the order in which its `Lib` and its folders list them,
+    and then those not there. The file of a folder lists its modules, and defines nothing."""
     found = {spec.module: spec for spec in map(Spec, files(f"crates/{crate}/specs", ".antt"))}
-    library = found.pop("Lib", None)
-    order = re.findall(r"^pub mod (\w+)", library.text, re.M) if library else []
-    last = sorted(found.keys() - {*order})
-    return {name: found[name] for name in [*order, *last] if name in found}
+
+    def listed(module, inside=""):
+        for name in re.findall(r"^pub mod (\w+)", found[module].text, re.M) if module in found else []:
+            yield inside + name
+            yield from listed(inside + name, f"{inside}{name}.")
+
+    order = [*listed("Lib")]
+    names = [*order, *sorted(found.keys() - {*order})]
+    return {name: found[name] for name in names if name in found and found[name].definitions}
 
 
 def home_of_spec(crate, module):
-    """Returns the crate and module that a path of imports leads to, through the `Lib` of a crate that exports it."""
+    """Returns the crate and module that a path of imports leads to, through the `Lib` of a crate that exports it or its
+    folder."""
     if module in specs(crate):
         return crate, module
     library = path("crates", crate, "specs/Lib.antt")
-    pattern = rf"^pub use Rattle\.(\w+)\.specs\.{re.escape(module)}$"
+    pattern = rf"^pub use Rattle\.(\w+)\.specs\.{module.partition('.')[0]}$"
     found = re.search(pattern, read(library), re.M) if os.path.isfile(library) else None
     return found and home_of_spec(found[1], module)
 

@@ -2,11 +2,10 @@
 use Rattle.std.proofs.Common.{◌≡◌, ℕ, Bool, false, List, Option, Some, None, Result, Ok, Err, ap, ◌∙◌}
 use Rattle.std.specs.Prelude.{⊤, option_map}
 use Rattle.std.proofs.lemmas.Option.{same_Some}
-use Rattle.byte_unit_base.specs.Fault.{Fault}
-use Rattle.byte_unit_base.specs.Accepted.{IsAccepted, IsRejected}
-use Rattle.byte_unit_base.specs.SizeReading.{IsSizeReading}
-use Rattle.byte_unit_base.specs.JsonReading.{JsonErrors, ReadsString, string_answer}
-use Rattle.byte_unit_base.specs.Parsed.{parsed_size}
+use Rattle.byte_unit_base.specs.Errors.Fault.{Fault}
+use Rattle.byte_unit_base.specs.Sizes.Accepted.{IsAccepted, IsRejected}
+use Rattle.byte_unit_base.specs.Reading.Results.{IsSizeReading, JsonErrors, ReadsString, string_answer}
+use Rattle.byte_unit_base.specs.Reading.Parsed.{parsed_size}
 use Rattle.byte_unit_choice.specs.ParsedAdjusted.{parsed_adjusted}
 use Rattle.byte_unit_base.specs.declared.kind.Kind.{Kind}
 use Rattle.byte_unit_base.specs.declared.errors.ParseError.{ParseError}

@@ -1,7 +1,7 @@
 -- The errors of units that are read from JSON strings.
 use Rattle.std.specs.Prelude.{ℕ, List, Option, Some, None, codes}
-use Rattle.byte_unit_base.specs.FaultText.{unit_text}
-use Rattle.byte_unit_base.specs.JsonReading.{JsonErrors}
+use Rattle.byte_unit_base.specs.Errors.Text.{unit_text}
+use Rattle.byte_unit_base.specs.Reading.Results.{JsonErrors}
 use Rattle.byte_unit_base.specs.declared.errors.UnitParseError.{UnitParseError}
 use Rattle.byte_unit.specs.declared.unit_json.JsonUnitError.{JsonUnitError}
 use Rattle.byte_unit.specs.declared.unit_json.JsonUnitError.TheVariants.{NotString, Unit as UnitFault}

@@ -4,10 +4,9 @@ ghost use Rattle.std.specs.Prelude.{◌≡◌, ⊤, IfOk, true, false};
 ghost use Rattle.serde_json.specs.Data.{string};
 ghost use Rattle.serde_json.specs.Find.{as_str};
 ghost use Rattle.serde_json.specs.View.{view};
-ghost use Rattle.byte_unit_base.specs.Version.{unit_name};
-ghost use Rattle.byte_unit_base.specs.JsonReading.{ReadsString};
-ghost use Rattle.byte_unit_base.specs.Readings.{IsUnitReading};
-ghost use Rattle.byte_unit_base.specs.Spelling.{flags_of};
+ghost use Rattle.byte_unit_base.specs.Grammar.Version.{unit_name};
+ghost use Rattle.byte_unit_base.specs.Reading.Results.{ReadsString, IsUnitReading};
+ghost use Rattle.byte_unit_base.specs.Grammar.Spelling.{flags_of};
 ghost use Rattle.byte_unit.specs.UnitJson.{error_text, styled_error_text, unit_errors};
 
 use byte_unit_base::{Unit, UnitParseError};

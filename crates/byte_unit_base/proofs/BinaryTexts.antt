@@ -7,16 +7,17 @@ use Rattle.std.proofs.Common.{◌≡◌, ℕ, Bool, true, false, ◌⊎◌, inl,
 use Rattle.std.proofs.Common.{sym, ap, subst, ◌∙◌, arith, append_assoc, nat_lt}
 use Rattle.std.proofs.lemmas.Bool.{cond_both}
 use Rattle.std.proofs.lemmas.Bool.Decides.{nat_tests}
-use Rattle.byte_unit_base.specs.Shape.{Shape, shape}
-use Rattle.byte_unit_base.specs.Version.{current}
-use Rattle.byte_unit_base.specs.Spelling.{Flags, Spells, SpellsBinary, SpellsMultiple}
-use Rattle.byte_unit_base.specs.SizeText.{space, trim_of, IsSizeText}
-use Rattle.byte_unit_base.specs.Fault.{Fault, IsSizeFault, letter_i}
-use Rattle.byte_unit_base.specs.Kinds.{flags_for}
-use Rattle.byte_unit_base.specs.ReaderLaws.{Represents}
-use Rattle.byte_unit_base.specs.Parsed.{parsed_size_as, size_of_parsed}
-use Rattle.byte_unit_base.specs.ParseSpec.{parse_spec, binary_of}
-use Rattle.byte_unit_base.specs.BinaryLaws.{HasDecimalPrefix, IsWithI, BinaryReadingsAreThoseWithI, EachTextHasOneWithI}
+use Rattle.byte_unit_base.specs.Grammar.Shape.{Shape, shape}
+use Rattle.byte_unit_base.specs.Grammar.Version.{current}
+use Rattle.byte_unit_base.specs.Grammar.Spelling.{Flags, Spells, SpellsBinary, SpellsMultiple}
+use Rattle.byte_unit_base.specs.Grammar.SizeText.{space, trim_of, IsSizeText}
+use Rattle.byte_unit_base.specs.Errors.Fault.{Fault, IsSizeFault, letter_i}
+use Rattle.byte_unit_base.specs.Sizes.Kinds.{flags_for}
+use Rattle.byte_unit_base.specs.Laws.Readers.{Represents}
+use Rattle.byte_unit_base.specs.Reading.Parsed.{parsed_size_as, size_of_parsed}
+use Rattle.byte_unit_base.specs.Reading.ParseSpec.{parse_spec, binary_of}
+use Rattle.byte_unit_base.specs.Laws.Binary.{HasDecimalPrefix, IsWithI, BinaryReadingsAreThoseWithI}
+use Rattle.byte_unit_base.specs.Laws.Binary.{EachTextHasOneWithI}
 use Rattle.byte_unit_base.specs.declared.kind.Kind.{Kind}
 use Rattle.byte_unit_base.proofs.Scans.{one_answer}
 use Rattle.byte_unit_base.proofs.SizeReads.{size_scan_is}

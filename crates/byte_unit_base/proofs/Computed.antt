@@ -3,11 +3,10 @@ use Rattle.std.proofs.Common.{◌≡◌, ℕ, List, false, refl, arith}
 use Rattle.std.specs.Str.{IsUtf8, is_utf8}
 use Rattle.std.proofs.lemmas.Bool.{false_from_ne_true}
 use Rattle.std.proofs.lemmas.Str.{IsUtf8-from_is_utf8}
-use Rattle.byte_unit_base.specs.Shape.{Shape}
-use Rattle.byte_unit_base.specs.Units.{shape_of}
-use Rattle.byte_unit_base.specs.UnitLists.{unit_of_shape}
-use Rattle.byte_unit_base.specs.LeastOfKind.{IsLeastOf}
-use Rattle.byte_unit_base.specs.Parsed.{rounded_up}
+use Rattle.byte_unit_base.specs.Grammar.Shape.{Shape}
+use Rattle.byte_unit_base.specs.Grammar.Units.{shape_of, unit_of_shape}
+use Rattle.byte_unit_base.specs.Sizes.Least.{IsLeastOf}
+use Rattle.byte_unit_base.specs.Reading.Parsed.{rounded_up}
 use Rattle.byte_unit_base.specs.declared.unit.Unit.{Unit as UnitName}
 use Rattle.byte_unit_base.specs.declared.kind.Kind.{Kind}
 use Rattle.byte_unit_base.specs.declared.kind.Kind.TheVariants.{Byte, Bit}

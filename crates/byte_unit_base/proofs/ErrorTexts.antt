@@ -3,7 +3,7 @@ use Rattle.std.proofs.Common.{◌≡◌, ℕ, ◌-◌, ◌≤◌, List, [], ◌�
 use Rattle.std.proofs.Common.{◌∙◌, if◌then◌else◌, ◌==◌, codes}
 use Rattle.std.proofs.Output.{then_text_assoc}
 use Rattle.std.specs.Fmt.{debug_char, ◌++?◌}
-use Rattle.byte_unit_base.specs.FaultText.{others_text}
+use Rattle.byte_unit_base.specs.Errors.Text.{others_text}
 
 -- what is written before an expected character, by those that follow it
 abbrev pub separator : List ℕ → List ℕ

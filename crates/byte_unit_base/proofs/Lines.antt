@@ -15,8 +15,8 @@ use Rattle.core.proofs.dec2flt.DigitsLemmas.{digits_len_short, digits_len-take}
 use Rattle.core.proofs.dec2flt.Rows.{many_more}
 use Rattle.core.specs.Dec2flt.Digits.{IsEightBytes}
 use lib.Lanes.{number_l}
-use Rattle.byte_unit_base.specs.Line.{IsLine}
-use Rattle.byte_unit_base.specs.ParserEnds.{IsAfterLine, IsLineOf, first_eight}
+use Rattle.byte_unit_base.specs.Reading.Line.{IsLine}
+use Rattle.byte_unit_base.specs.Reading.Ends.{IsAfterLine, IsLineOf, first_eight}
 use Rattle.byte_unit_base.proofs.Lists.{dropped_first}
 
 -- the first bytes, up to a line feed or the end, are a line

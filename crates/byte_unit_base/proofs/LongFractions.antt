@@ -9,10 +9,10 @@ use Rattle.byte_unit_math.specs.Bounds.{places_of_decimal}
 use Rattle.byte_unit_math.specs.Finite.{Finite}
 use Rattle.byte_unit_math.specs.Numeral.{glyphs, text_of}
 use Rattle.byte_unit_math.proofs.Fractions.{fraction_text_some}
-use Rattle.byte_unit_base.specs.Version.{current}
-use Rattle.byte_unit_base.specs.Spelling.{Flags}
-use Rattle.byte_unit_base.specs.Fault.{too_long, IsSizeFault}
-use Rattle.byte_unit_base.specs.SizeScan.{Fraction, is_digit, size_step}
+use Rattle.byte_unit_base.specs.Grammar.Version.{current}
+use Rattle.byte_unit_base.specs.Grammar.Spelling.{Flags}
+use Rattle.byte_unit_base.specs.Errors.Fault.{too_long, IsSizeFault}
+use Rattle.byte_unit_base.specs.Reading.Machines.{Fraction, is_digit, size_step}
 use Rattle.byte_unit_base.proofs.NumberEnds.{digit_in}
 use Rattle.byte_unit_base.proofs.NumberTexts.{IsBounded, glyph_digits, whole_text}
 use Rattle.byte_unit_base.proofs.Scans.{first_fault}

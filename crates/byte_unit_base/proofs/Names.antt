@@ -6,12 +6,12 @@ use Rattle.std.specs.Str.{chars}
 use Rattle.std.proofs.lemmas.Bool.{and_from, cases_lt, cond_both}
 use Rattle.std.proofs.lemmas.Bool.Decides.{nat_tests}
 use Rattle.std.proofs.lemmas.List.{length-append}
-use Rattle.byte_unit_base.specs.Shape.{Shape}
-use Rattle.byte_unit_base.specs.Version.{current, unit_name, unit_name_in}
-use Rattle.byte_unit_base.specs.Units.{shape_of}
-use Rattle.byte_unit_base.specs.Spelling.{Flags, flags_of, SpellsCount, SpellsBinary, Spells}
-use Rattle.byte_unit_base.specs.SizeText.{trim_of}
-use Rattle.byte_unit_base.specs.ReaderLaws.{NamesSpellTheirUnits}
+use Rattle.byte_unit_base.specs.Grammar.Shape.{Shape}
+use Rattle.byte_unit_base.specs.Grammar.Version.{current, unit_name, unit_name_in}
+use Rattle.byte_unit_base.specs.Grammar.Units.{shape_of}
+use Rattle.byte_unit_base.specs.Grammar.Spelling.{Flags, flags_of, SpellsCount, SpellsBinary, Spells}
+use Rattle.byte_unit_base.specs.Grammar.SizeText.{trim_of}
+use Rattle.byte_unit_base.specs.Laws.Readers.{NamesSpellTheirUnits}
 use Rattle.byte_unit_base.specs.declared.unit.Unit.{Unit as UnitName}
 use Rattle.byte_unit_base.specs.declared.unit.Unit.TheVariants.{Bit, B}
 use Rattle.byte_unit_base.proofs.SizeAscii.{IsVisible}

@@ -16,14 +16,14 @@ use Rattle.std.proofs.lemmas.Str.{IsAscii-append}
 use Rattle.std.proofs.lemmas.Str.Parse.{digit_at}
 use Rattle.std.proofs.lemmas.Str.Ascii.{IsAscii-nil, IsAscii-cons, IsAscii-more}
 use Rattle.byte_unit_math.specs.Bounds.{scale, places_of_decimal, whole_limit}
-use Rattle.byte_unit_base.specs.Version.{current}
-use Rattle.byte_unit_base.specs.Spelling.{Flags, flags_of}
-use Rattle.byte_unit_base.specs.Number.{point, IsWholePart, IsPointed, IsPrecise}
-use Rattle.byte_unit_base.specs.Fault.{fault_at, too_long}
-use Rattle.byte_unit_base.specs.Scan.{run}
-use Rattle.byte_unit_base.specs.SizeScan.{SizeScan, Beginning, Whole, Point, Fraction, is_digit, size_step, fixed_point}
-use Rattle.byte_unit_base.specs.SizeScan.{size_parser_state}
-use Rattle.byte_unit_base.specs.ParserEnds.{IsFirst, IsStopAt, IsStoppedBefore, EndsNumber, IsLeadingNumber, IsLimitAt}
+use Rattle.byte_unit_base.specs.Grammar.Version.{current}
+use Rattle.byte_unit_base.specs.Grammar.Spelling.{Flags, flags_of}
+use Rattle.byte_unit_base.specs.Grammar.Number.{point, IsWholePart, IsPointed, IsPrecise}
+use Rattle.byte_unit_base.specs.Errors.Fault.{fault_at, too_long}
+use Rattle.byte_unit_base.specs.Reading.Machines.{run, SizeScan, Beginning, Whole, Point, Fraction, is_digit, size_step}
+use Rattle.byte_unit_base.specs.Reading.Machines.{fixed_point, size_parser_state}
+use Rattle.byte_unit_base.specs.Reading.Ends.{IsFirst, IsStopAt, IsStoppedBefore, EndsNumber, IsLeadingNumber}
+use Rattle.byte_unit_base.specs.Reading.Ends.{IsLimitAt}
 use Rattle.byte_unit_base.specs.declared.stop.NumberStop.TheVariants.{NoWhole, NoFraction, TooLong}
 use Rattle.byte_unit_base.specs.declared.stop.Reason.TheVariants.{InNumber}
 use Rattle.byte_unit_base.proofs.Lists.{dropped_first}

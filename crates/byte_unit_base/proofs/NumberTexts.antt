@@ -8,8 +8,8 @@ use Rattle.std.proofs.lemmas.Bool.Decides.{nat_tests}
 use Rattle.std.proofs.lemmas.Fmt.{decimal_is_IsNumeral_wide}
 use Rattle.std.proofs.lemmas.List.Elements.{All-head, All-tail}
 use Rattle.byte_unit_math.specs.Bounds.{scale, places_of_decimal, whole_limit}
-use Rattle.byte_unit_base.specs.Version.{current}
-use Rattle.byte_unit_base.specs.Number.{IsWholePart, IsNumberText}
+use Rattle.byte_unit_base.specs.Grammar.Version.{current}
+use Rattle.byte_unit_base.specs.Grammar.Number.{IsWholePart, IsNumberText}
 use Rattle.byte_unit_math.specs.Finite.{Finite, value_of_digits}
 use Rattle.byte_unit_math.specs.Numeral.{glyphs, fraction_text}
 use Rattle.byte_unit_base.proofs.SizeAscii.{IsVisible, digits_visible, visible_append}

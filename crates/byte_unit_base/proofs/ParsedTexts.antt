@@ -6,22 +6,22 @@ use Rattle.std.proofs.lemmas.Bool.{cond_both, cond-true, cond-false, lt-ltb, le-
 use Rattle.std.specs.Prelude.{nat_lt}
 use Rattle.std.specs.Result.{result_map_both}
 use Rattle.byte_unit_math.specs.Bounds.{size_limit}
-use Rattle.byte_unit_base.specs.Shape.{Shape}
-use Rattle.byte_unit_base.specs.Spelling.{Flags}
-use Rattle.byte_unit_base.specs.Version.{current}
-use Rattle.byte_unit_base.specs.SizeText.{trim_of}
-use Rattle.byte_unit_base.specs.Fault.{Fault, exceeded, IsSizeFault}
-use Rattle.byte_unit_base.specs.Kinds.{flags_for}
-use Rattle.byte_unit_base.specs.ParseSpec.{ParseSpec, parse_spec, unit_meant}
-use Rattle.byte_unit_base.specs.Accepted.{IsReadAs, IsAcceptedAs, IsRejectedAs}
-use Rattle.byte_unit_base.specs.Errors.{size_fault}
-use Rattle.byte_unit_base.specs.SizeReading.{IsReadingAs}
+use Rattle.byte_unit_base.specs.Grammar.Shape.{Shape}
+use Rattle.byte_unit_base.specs.Grammar.Spelling.{Flags}
+use Rattle.byte_unit_base.specs.Grammar.Version.{current}
+use Rattle.byte_unit_base.specs.Grammar.SizeText.{trim_of}
+use Rattle.byte_unit_base.specs.Errors.Fault.{Fault, exceeded, IsSizeFault}
+use Rattle.byte_unit_base.specs.Sizes.Kinds.{flags_for}
+use Rattle.byte_unit_base.specs.Reading.ParseSpec.{ParseSpec, parse_spec, unit_meant}
+use Rattle.byte_unit_base.specs.Sizes.Accepted.{IsReadAs, IsAcceptedAs, IsRejectedAs}
+use Rattle.byte_unit_base.specs.Errors.Meaning.{size_fault}
+use Rattle.byte_unit_base.specs.Reading.Results.{IsReadingAs}
 use Rattle.byte_unit_base.specs.declared.errors.ParseError.{ParseError}
-use Rattle.byte_unit_base.specs.ReaderLaws.{Represents}
-use Rattle.byte_unit_base.specs.Parsed.{parsed_unit, parsed_number, parsed_size_as, rounded_up, size_of_parsed}
-use Rattle.byte_unit_base.specs.Parsed.{size_within_limit}
-use Rattle.byte_unit_base.specs.ParsedLaws.{GivesAnswer, ParsedUnitsAreSpelled, ParsedNumbersAreRepresented}
-use Rattle.byte_unit_base.specs.ParsedLaws.{ParsedSizesAreAccepted}
+use Rattle.byte_unit_base.specs.Laws.Readers.{Represents}
+use Rattle.byte_unit_base.specs.Reading.Parsed.{parsed_unit, parsed_number, parsed_size_as, rounded_up, size_of_parsed}
+use Rattle.byte_unit_base.specs.Reading.Parsed.{size_within_limit}
+use Rattle.byte_unit_base.specs.Laws.Parsed.{GivesAnswer, ParsedUnitsAreSpelled, ParsedNumbersAreRepresented}
+use Rattle.byte_unit_base.specs.Laws.Parsed.{ParsedSizesAreAccepted}
 use Rattle.byte_unit_base.proofs.Scans.{IsAnswer, reads_meaning_or_fault, reads_meaning, reads_fault, reads}
 use Rattle.byte_unit_base.proofs.Scans.{gives_answer, one_of_given}
 use Rattle.byte_unit_base.proofs.Computed.{rounded_up_is_least}

@@ -7,23 +7,20 @@ use Rattle.std.proofs.Common.{◌≡◌, ◌≢◌, ℕ, ◌+◌, inr, List, [],
 use Rattle.std.proofs.Common.{take, drop, refl, sym, ap, ◌∙◌, arith, chars, IsUtf8, length-take-le, ◌≤◌, IsAscii, subst}
 use Rattle.std.proofs.Common.{take-append-drop}
 use Rattle.std.proofs.lemmas.Str.{IsAscii-append, IsUtf8-from_ascii}
-use Rattle.byte_unit_base.specs.Version.{current}
-use Rattle.byte_unit_base.specs.Units.{shape_of}
-use Rattle.byte_unit_base.specs.Spelling.{Flags}
-use Rattle.byte_unit_base.specs.SizeText.{trim_of}
-use Rattle.byte_unit_base.specs.ViablePrefix.{ParserState}
-use Rattle.byte_unit_base.specs.Fault.{Fault, fault_at, IsFaultAfter, IsFirstFault, IsSizeFault, IsUnitFault}
-use Rattle.byte_unit_base.specs.Fault.{exceeded, not_number, no_value, too_long, bad_unit}
-use Rattle.byte_unit_base.specs.Scan.{Scan, run}
-use Rattle.byte_unit_base.specs.UnitScan.{unit_step, unit_parser_state, start as unit_start}
-use Rattle.byte_unit_base.specs.UnitWord.{unit_stop}
-use Rattle.byte_unit_base.specs.SizeScan.{size_parser_state}
-use Rattle.byte_unit_base.specs.Outcome.{IsStop, IsUnitOrStop}
-use Rattle.byte_unit_base.specs.Readings.{IsNumberReading, IsUnitReading}
-use Rattle.byte_unit_base.specs.ParserEnds.{IsVisibleNext, IsFirst, IsStopAt, IsUnitStop, stop_fault}
-use Rattle.byte_unit_base.specs.ParserEnds.{unit_stop_fault}
-use Rattle.byte_unit_base.specs.ErrorPosition.{leading_white, IsErrorAt, IsSizePosition, IsUnitPosition, next_char}
-use Rattle.byte_unit_base.specs.ErrorPosition.{location_at, IsLocationOf}
+use Rattle.byte_unit_base.specs.Grammar.Version.{current}
+use Rattle.byte_unit_base.specs.Grammar.Units.{shape_of}
+use Rattle.byte_unit_base.specs.Grammar.Spelling.{Flags}
+use Rattle.byte_unit_base.specs.Grammar.SizeText.{trim_of}
+use Rattle.byte_unit_base.specs.Errors.ViablePrefix.{ParserState}
+use Rattle.byte_unit_base.specs.Errors.Fault.{Fault, fault_at, IsFaultAfter, IsFirstFault, IsSizeFault, IsUnitFault}
+use Rattle.byte_unit_base.specs.Errors.Fault.{exceeded, not_number, no_value, too_long, bad_unit}
+use Rattle.byte_unit_base.specs.Reading.Machines.{Scan, run, unit_step, unit_parser_state, start as unit_start}
+use Rattle.byte_unit_base.specs.Reading.Machines.{size_parser_state}
+use Rattle.byte_unit_base.specs.Reading.Ends.{unit_stop, IsStop, IsUnitOrStop, IsVisibleNext, IsFirst, IsStopAt}
+use Rattle.byte_unit_base.specs.Reading.Ends.{IsUnitStop, stop_fault, unit_stop_fault}
+use Rattle.byte_unit_base.specs.Reading.Results.{IsNumberReading, IsUnitReading}
+use Rattle.byte_unit_base.specs.Errors.Position.{leading_white, IsErrorAt, IsSizePosition, IsUnitPosition, next_char}
+use Rattle.byte_unit_base.specs.Errors.Position.{location_at, IsLocationOf}
 use Rattle.byte_unit_base.specs.declared.errors.Location.{Location}
 use Rattle.byte_unit_base.specs.declared.stop.Reason.{Reason}
 use Rattle.byte_unit_base.specs.declared.unit.Unit.{Unit as UnitName}

@@ -10,7 +10,7 @@ use Rattle.std.proofs.lemmas.Str.{IsUtf8-append, IsUtf8-encode, IsUtf8-nil, enco
 use Rattle.std.proofs.lemmas.List.{length-take-le}
 use Rattle.std.proofs.Math.Utf8.{scalar_cases, low_scalar}
 use Rattle.core.proofs.fmt.DigitsParse.{digits-IsUtf8}
-use Rattle.byte_unit_base.specs.Quoted.{escape, escape_byte, escape_char, is_unseen, quote, quoted_len}
+use Rattle.byte_unit_base.specs.Errors.Quoted.{escape, escape_byte, escape_char, is_unseen, quote, quoted_len}
 use Rattle.byte_unit_base.proofs.PutTexts.{digits_length}
 
 -- the digits of the code of a character, with four bytes more, are at most six times as long as the character

@@ -4,13 +4,13 @@
 use Rattle.std.proofs.Common.{◌≡◌, ℕ, ◌+◌, ◌-◌, ◌*◌, ◌/◌, ◌<◌, ◌≤◌, arith, mul-le-mul_right, lt_of_mul-lt-mul_right}
 use Rattle.byte_unit_math.specs.Bounds.{scale}
 use Rattle.byte_unit_math.specs.Least.{IsLeastSize}
-use Rattle.byte_unit_base.specs.Shape.{Shape, bits}
+use Rattle.byte_unit_base.specs.Grammar.Shape.{Shape, bits}
 use Rattle.byte_unit_base.specs.declared.kind.Kind.{Kind}
 use Rattle.byte_unit_base.specs.declared.kind.Kind.TheVariants.{Byte, Bit}
-use Rattle.byte_unit_base.specs.Kinds.{bits_in}
-use Rattle.byte_unit_base.specs.SizeLaws.{EachNumberHasOneLeastSize, GreaterNumbersGiveNoSmallerSizes}
+use Rattle.byte_unit_base.specs.Sizes.Kinds.{bits_in}
+use Rattle.byte_unit_base.specs.Laws.Sizes.{EachNumberHasOneLeastSize, GreaterNumbersGiveNoSmallerSizes}
 use Rattle.byte_unit_base.proofs.Computed.{rounded_up_is_least}
-use Rattle.byte_unit_base.specs.LeastOfKind.{IsLeastOf, IsAtLeast}
+use Rattle.byte_unit_base.specs.Sizes.Least.{IsLeastOf, IsAtLeast}
 
 -- each number of a unit has a least number of bits that holds it
 pub least_bits : (N unit : ℕ) → (b : ℕ) × IsLeastSize N unit b

@@ -7,13 +7,13 @@
 use Rattle.std.proofs.Common.{◌≡◌, ℕ, ◌⊎◌, inl, inr, List, [], ◌∷◌, ◌++◌, Option, Some, None, Result, Ok, Err}
 use Rattle.std.proofs.Common.{option_and_then, sym, refl, ap, subst, ◌∙◌, append-nil, ⊎_elim, append_assoc, ◌↔◌, All}
 use Rattle.std.proofs.lemmas.List.Elements.{All-nil, All-cons}
-use Rattle.byte_unit_base.specs.Version.{current}
-use Rattle.byte_unit_base.specs.ViablePrefix.{ParserState}
-use Rattle.byte_unit_base.specs.Fault.{Fault, fault_at, fault_at_end, IsFaultAfter, IsFirstFault}
-use Rattle.byte_unit_base.specs.ParserEnds.{IsFirst}
-use Rattle.byte_unit_base.specs.ReaderLaws.{IsOneAnswer, CanBecome}
-use Rattle.byte_unit_base.specs.ParsedLaws.{GivesAnswer}
-use Rattle.byte_unit_base.specs.Scan.{Scan, run, read}
+use Rattle.byte_unit_base.specs.Grammar.Version.{current}
+use Rattle.byte_unit_base.specs.Errors.ViablePrefix.{ParserState}
+use Rattle.byte_unit_base.specs.Errors.Fault.{Fault, fault_at, fault_at_end, IsFaultAfter, IsFirstFault}
+use Rattle.byte_unit_base.specs.Reading.Ends.{IsFirst}
+use Rattle.byte_unit_base.specs.Laws.Readers.{IsOneAnswer, CanBecome}
+use Rattle.byte_unit_base.specs.Laws.Parsed.{GivesAnswer}
+use Rattle.byte_unit_base.specs.Reading.Machines.{Scan, run, read}
 use Rattle.byte_unit_base.proofs.Options.{none_or_some, some_passed}
 
 -- the state after a text

@@ -16,13 +16,12 @@ use Rattle.std.proofs.lemmas.List.Sums.{list_all-from_AllPass}
 use Rattle.std.proofs.lemmas.List.Folds.{list_all-append}
 use Rattle.std.proofs.lemmas.Str.{IsAscii-append, chars-IsAscii}
 use Rattle.std.proofs.lemmas.Str.Ascii.{IsAscii-nil, IsAscii-cons, IsAscii-from_all}
-use Rattle.byte_unit_base.specs.Shape.{Shape}
-use Rattle.byte_unit_base.specs.Version.{current}
-use Rattle.byte_unit_base.specs.Spelling.{Flags, Spells}
-use Rattle.byte_unit_base.specs.Number.{IsNumberText}
-use Rattle.byte_unit_base.specs.SizeText.{space, trim_of, IsSizeText}
-use Rattle.byte_unit_base.specs.Scan.{run}
-use Rattle.byte_unit_base.specs.UnitScan.{UnitScan, unit_step, start}
+use Rattle.byte_unit_base.specs.Grammar.Shape.{Shape}
+use Rattle.byte_unit_base.specs.Grammar.Version.{current}
+use Rattle.byte_unit_base.specs.Grammar.Spelling.{Flags, Spells}
+use Rattle.byte_unit_base.specs.Grammar.Number.{IsNumberText}
+use Rattle.byte_unit_base.specs.Grammar.SizeText.{space, trim_of, IsSizeText}
+use Rattle.byte_unit_base.specs.Reading.Machines.{run, UnitScan, unit_step, start}
 use Rattle.byte_unit_base.proofs.Scans.{run_all}
 use Rattle.byte_unit_base.proofs.Trim.{visible_not_white}
 use Rattle.byte_unit_base.proofs.UnitRuns.{spelling_runs, step_range}

@@ -4,25 +4,24 @@
 -- unit that is meant, rounded up, and `size.1` that it is below the limit.
 use Rattle.std.proofs.Common.{ℕ, List, Some, None, Ok, Err, sym, refl, inl, inr, IsUtf8}
 use Rattle.std.proofs.lemmas.Str.{IsUtf8-from_ascii}
-use Rattle.byte_unit_base.specs.Spelling.{Flags}
-use Rattle.byte_unit_base.specs.Version.{current}
-use Rattle.byte_unit_base.specs.Units.{shape_of}
+use Rattle.byte_unit_base.specs.Grammar.Spelling.{Flags}
+use Rattle.byte_unit_base.specs.Grammar.Version.{current}
+use Rattle.byte_unit_base.specs.Grammar.Units.{shape_of}
 use Rattle.byte_unit_base.specs.declared.unit.Unit.{Unit as UnitName}
 use Rattle.byte_unit_base.specs.declared.errors.ParseError.{ParseError}
 use Rattle.byte_unit_base.specs.declared.errors.ParseError.TheVariants.{Value}
 use Rattle.byte_unit_base.specs.declared.errors.ValueParseError.TheVariants.{ExceededBounds}
-use Rattle.byte_unit_base.specs.LeastOfKind.{IsLeastOf}
-use Rattle.byte_unit_base.specs.SizeOrNone.{IsSizeOrNone}
-use Rattle.byte_unit_base.specs.Kinds.{flags_for}
-use Rattle.byte_unit_base.specs.ParseSpec.{ParseSpec, unit_meant}
-use Rattle.byte_unit_base.specs.Readings.{IsNumberReading}
-use Rattle.byte_unit_base.specs.SizeReading.{IsReadingAs}
-use Rattle.byte_unit_base.specs.SizeText.{IsSizeText}
-use Rattle.byte_unit_base.specs.Errors.{size_fault}
-use Rattle.byte_unit_base.specs.Fault.{exceeded}
-use Rattle.byte_unit_base.specs.Accepted.{IsAcceptedAs, IsRejectedAs}
-use Rattle.byte_unit_base.specs.ParsedLaws.{GivesAnswer}
-use Rattle.byte_unit_base.specs.Parsed.{parsed_size_as, rounded_up}
+use Rattle.byte_unit_base.specs.Sizes.Least.{IsLeastOf}
+use Rattle.byte_unit_base.specs.Sizes.OrNone.{IsSizeOrNone}
+use Rattle.byte_unit_base.specs.Sizes.Kinds.{flags_for}
+use Rattle.byte_unit_base.specs.Reading.ParseSpec.{ParseSpec, unit_meant}
+use Rattle.byte_unit_base.specs.Reading.Results.{IsNumberReading, IsReadingAs}
+use Rattle.byte_unit_base.specs.Grammar.SizeText.{IsSizeText}
+use Rattle.byte_unit_base.specs.Errors.Meaning.{size_fault}
+use Rattle.byte_unit_base.specs.Errors.Fault.{exceeded}
+use Rattle.byte_unit_base.specs.Sizes.Accepted.{IsAcceptedAs, IsRejectedAs}
+use Rattle.byte_unit_base.specs.Laws.Parsed.{GivesAnswer}
+use Rattle.byte_unit_base.specs.Reading.Parsed.{parsed_size_as, rounded_up}
 use Rattle.byte_unit_base.proofs.Computed.{rounded_up_is_least}
 use Rattle.byte_unit_base.proofs.SizeAscii.{trimmed_size, size_ascii}
 use Rattle.byte_unit_base.proofs.SizeReads.{number_reading}

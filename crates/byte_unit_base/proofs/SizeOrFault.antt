@@ -2,13 +2,13 @@
 --
 -- Of a size `e` that is too large, `e.0` is the number, and the last part that its size is too large.
 use Rattle.std.proofs.Common.{ℕ, List, inl, inr, ⊎_elim, refl}
-use Rattle.byte_unit_base.specs.Version.{current}
-use Rattle.byte_unit_base.specs.Fault.{exceeded}
-use Rattle.byte_unit_base.specs.Kinds.{flags_for}
-use Rattle.byte_unit_base.specs.ParseSpec.{ParseSpec}
-use Rattle.byte_unit_base.specs.Accepted.{IsAcceptedAs, ExceedsAs, HasFault, IsRejectedAs}
-use Rattle.byte_unit_base.specs.SizeLaws.{IsOneOfThree}
-use Rattle.byte_unit_base.specs.ReaderLaws.{IsOneAnswer}
+use Rattle.byte_unit_base.specs.Grammar.Version.{current}
+use Rattle.byte_unit_base.specs.Errors.Fault.{exceeded}
+use Rattle.byte_unit_base.specs.Sizes.Kinds.{flags_for}
+use Rattle.byte_unit_base.specs.Reading.ParseSpec.{ParseSpec}
+use Rattle.byte_unit_base.specs.Sizes.Accepted.{IsAcceptedAs, ExceedsAs, HasFault, IsRejectedAs}
+use Rattle.byte_unit_base.specs.Laws.Sizes.{IsOneOfThree}
+use Rattle.byte_unit_base.specs.Laws.Readers.{IsOneAnswer}
 use Rattle.byte_unit_base.proofs.Scans.{one_of_given}
 use Rattle.byte_unit_base.proofs.SizeReads.{no_bounds_after}
 use Rattle.byte_unit_base.proofs.ParsedTexts.{size_given}

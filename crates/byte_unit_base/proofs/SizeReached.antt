@@ -10,10 +10,10 @@ use Rattle.std.specs.Str.Parse.{IsNumeral, digits_value}
 use Rattle.std.proofs.lemmas.List.{replicate_more}
 use Rattle.std.proofs.lemmas.Int.Digits.{digits_value_push, digits_push}
 use Rattle.byte_unit_math.specs.Bounds.{scale, places_of_decimal}
-use Rattle.byte_unit_base.specs.Version.{current}
-use Rattle.byte_unit_base.specs.Number.{IsWholePart, IsPointed, IsPrecise, IsNumberText}
-use Rattle.byte_unit_base.specs.UnitScan.{start as unit_start, UnitScan}
-use Rattle.byte_unit_base.specs.SizeScan.{fixed_point, SizeScan, Beginning, Whole, Point, Fraction, Gap, UnitAt}
+use Rattle.byte_unit_base.specs.Grammar.Version.{current}
+use Rattle.byte_unit_base.specs.Grammar.Number.{IsWholePart, IsPointed, IsPrecise, IsNumberText}
+use Rattle.byte_unit_base.specs.Reading.Machines.{start as unit_start, UnitScan, fixed_point, SizeScan, Beginning}
+use Rattle.byte_unit_base.specs.Reading.Machines.{Whole, Point, Fraction, Gap, UnitAt}
 use Rattle.byte_unit_base.proofs.UnitReached.{Reached, Reached-step, Reached-start}
 use Rattle.byte_unit_base.proofs.SizeSteps.{UnitStep, AfterNumber, StepOf}
 use Rattle.byte_unit_base.proofs.Lists.{push_last}

@@ -8,23 +8,22 @@ use Rattle.std.proofs.Common.{◌≡◌, ◌≢◌, ℕ, ◌<◌, ◌*◌, inl, 
 use Rattle.std.proofs.Common.{length, sym, refl, ap, ◌∙◌, arith}
 use Rattle.std.specs.Result.{result_map_both}
 use Rattle.byte_unit_math.specs.Bounds.{scale}
-use Rattle.byte_unit_base.specs.Shape.{Shape}
-use Rattle.byte_unit_base.specs.Version.{current}
-use Rattle.byte_unit_base.specs.Units.{shape_of}
-use Rattle.byte_unit_base.specs.Parsed.{parsed_number, number_and_unit_of_crate}
-use Rattle.byte_unit_base.specs.Spelling.{Flags, Spells}
-use Rattle.byte_unit_base.specs.SizeText.{trim_of, IsSizeText}
-use Rattle.byte_unit_base.specs.Readings.{IsNumberReading}
-use Rattle.byte_unit_base.specs.ViablePrefix.{ParserState, beginning, in_whole, before_unit, IsViableUnitPrefix}
-use Rattle.byte_unit_base.specs.ViablePrefix.{IsNumberAndUnitPrefix, IsViableSizePrefix, after_bi}
-use Rattle.byte_unit_base.specs.Fault.{Fault, IsFaultAfter, IsSizeFault, fault_at_end, exceeded}
-use Rattle.byte_unit_base.specs.Errors.{size_fault}
-use Rattle.byte_unit_base.specs.ReaderLaws.{Represents}
-use Rattle.byte_unit_base.specs.Scan.{read}
-use Rattle.byte_unit_base.specs.UnitScan.{unit_step, unit_of, unit_at_end, word_parser_state, scan_of}
-use Rattle.byte_unit_base.specs.UnitScan.{start as unit_start, UnitScan, Multiple, One, SuffixPart, Empty, Bi}
-use Rattle.byte_unit_base.specs.SizeScan.{size_step, size_scan, size_at_end, size_parser_state, size_or_fault}
-use Rattle.byte_unit_base.specs.SizeScan.{fixed_point, SizeScan, Beginning, Whole, Point, Fraction, Gap, UnitAt}
+use Rattle.byte_unit_base.specs.Grammar.Shape.{Shape}
+use Rattle.byte_unit_base.specs.Grammar.Version.{current}
+use Rattle.byte_unit_base.specs.Grammar.Units.{shape_of}
+use Rattle.byte_unit_base.specs.Reading.Parsed.{parsed_number, number_and_unit_of_crate}
+use Rattle.byte_unit_base.specs.Grammar.Spelling.{Flags, Spells}
+use Rattle.byte_unit_base.specs.Grammar.SizeText.{trim_of, IsSizeText}
+use Rattle.byte_unit_base.specs.Reading.Results.{IsNumberReading}
+use Rattle.byte_unit_base.specs.Errors.ViablePrefix.{ParserState, beginning, in_whole, before_unit, IsViableUnitPrefix}
+use Rattle.byte_unit_base.specs.Errors.ViablePrefix.{IsNumberAndUnitPrefix, IsViableSizePrefix, after_bi}
+use Rattle.byte_unit_base.specs.Errors.Fault.{Fault, IsFaultAfter, IsSizeFault, fault_at_end, exceeded}
+use Rattle.byte_unit_base.specs.Errors.Meaning.{size_fault}
+use Rattle.byte_unit_base.specs.Laws.Readers.{Represents}
+use Rattle.byte_unit_base.specs.Reading.Machines.{read, unit_step, unit_of, unit_at_end, word_parser_state, scan_of}
+use Rattle.byte_unit_base.specs.Reading.Machines.{start as unit_start, UnitScan, Multiple, One, SuffixPart, Empty, Bi}
+use Rattle.byte_unit_base.specs.Reading.Machines.{size_step, size_scan, size_at_end, size_parser_state, size_or_fault}
+use Rattle.byte_unit_base.specs.Reading.Machines.{fixed_point, SizeScan, Beginning, Whole, Point, Fraction, Gap, UnitAt}
 use Rattle.byte_unit_base.specs.declared.unit.Unit.{Unit as UnitName}
 use Rattle.byte_unit_base.specs.declared.errors.ParseError.{ParseError}
 use Rattle.byte_unit_base.proofs.Computed.{unit_of_its_shape}

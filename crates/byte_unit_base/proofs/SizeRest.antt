@@ -8,11 +8,11 @@ use Rattle.std.proofs.lemmas.Bool.Decides.{nat_tests}
 use Rattle.std.proofs.lemmas.Str.{encodes-chars, byte_from_char, length-le-encodes, chars-append, chars-IsAscii}
 use Rattle.std.proofs.lemmas.Str.{IsUtf8-from_ascii, IsUtf8-drop, IsCharBoundary-from_take}
 use Rattle.byte_unit_math.specs.Bounds.{scale}
-use Rattle.byte_unit_base.specs.ViablePrefix.{in_fraction}
-use Rattle.byte_unit_base.specs.SizeScan.{SizeScan, Whole, Fraction, Gap, is_digit, size_step, size_parser_state}
-use Rattle.byte_unit_base.specs.SizeScan.{after_number}
-use Rattle.byte_unit_base.specs.ParserEnds.{IsFirst, EndsNumber, IsStopAt}
-use Rattle.byte_unit_base.specs.Spelling.{Flags}
+use Rattle.byte_unit_base.specs.Errors.ViablePrefix.{in_fraction}
+use Rattle.byte_unit_base.specs.Reading.Machines.{SizeScan, Whole, Fraction, Gap, is_digit, size_step}
+use Rattle.byte_unit_base.specs.Reading.Machines.{size_parser_state, after_number}
+use Rattle.byte_unit_base.specs.Reading.Ends.{IsFirst, EndsNumber, IsStopAt}
+use Rattle.byte_unit_base.specs.Grammar.Spelling.{Flags}
 use Rattle.byte_unit_base.specs.declared.stop.Reason.{Reason}
 use Rattle.byte_unit_base.proofs.SizeRuns.{AtNumber}
 

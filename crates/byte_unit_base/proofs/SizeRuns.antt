@@ -9,17 +9,17 @@ use Rattle.std.specs.Char.{digit_value}
 use Rattle.std.specs.Str.Parse.{IsNumeral, AllDigits, digits_value, digits_value_after}
 use Rattle.std.proofs.lemmas.Bool.Decides.{nat_tests}
 use Rattle.byte_unit_math.specs.Bounds.{scale, places_of_decimal, whole_limit}
-use Rattle.byte_unit_base.specs.Shape.{Shape}
-use Rattle.byte_unit_base.specs.Version.{current}
-use Rattle.byte_unit_base.specs.Spelling.{Flags}
-use Rattle.byte_unit_base.specs.Number.{IsWholePart, IsPointed, IsPrecise, IsNumberText}
-use Rattle.byte_unit_base.specs.SizeText.{space, IsSizeText}
-use Rattle.byte_unit_base.specs.ViablePrefix.{ParserState, beginning, in_whole, after_point, in_fraction, before_unit}
-use Rattle.byte_unit_base.specs.ViablePrefix.{IsNumberAndUnitPrefix, IsViableSizePrefix}
-use Rattle.byte_unit_base.specs.Scan.{run}
-use Rattle.byte_unit_base.specs.UnitScan.{unit_step, unit_parser_state, unit_of, start as unit_start, UnitScan}
-use Rattle.byte_unit_base.specs.SizeScan.{size_step, size_scan, size_at_end, size_parser_state, size_or_fault}
-use Rattle.byte_unit_base.specs.SizeScan.{fixed_point, SizeScan, Beginning, Whole, Point, Fraction, Gap, UnitAt}
+use Rattle.byte_unit_base.specs.Grammar.Shape.{Shape}
+use Rattle.byte_unit_base.specs.Grammar.Version.{current}
+use Rattle.byte_unit_base.specs.Grammar.Spelling.{Flags}
+use Rattle.byte_unit_base.specs.Grammar.Number.{IsWholePart, IsPointed, IsPrecise, IsNumberText}
+use Rattle.byte_unit_base.specs.Grammar.SizeText.{space, IsSizeText}
+use Rattle.byte_unit_base.specs.Errors.ViablePrefix.{ParserState, beginning, in_whole, after_point, in_fraction}
+use Rattle.byte_unit_base.specs.Errors.ViablePrefix.{before_unit, IsNumberAndUnitPrefix, IsViableSizePrefix}
+use Rattle.byte_unit_base.specs.Reading.Machines.{run, unit_step, unit_parser_state, unit_of, start as unit_start}
+use Rattle.byte_unit_base.specs.Reading.Machines.{UnitScan, size_step, size_scan, size_at_end, size_parser_state}
+use Rattle.byte_unit_base.specs.Reading.Machines.{size_or_fault, fixed_point, SizeScan, Beginning, Whole, Point}
+use Rattle.byte_unit_base.specs.Reading.Machines.{Fraction, Gap, UnitAt}
 use Rattle.byte_unit_base.proofs.Options.{some_passed}
 use Rattle.byte_unit_base.proofs.Scans.{run_through, run_step, runs_then, RunsTo, IsScanned}
 use Rattle.byte_unit_base.proofs.UnitRuns.{spelling_runs, unit_front_runs, step_range}

@@ -3,9 +3,8 @@ use Rattle.std.proofs.Common.{◌≡◌, ℕ, ◌+◌, ◌*◌, ◌<◌, ◌⊎�
 use Rattle.std.specs.Char.{digit_value}
 use Rattle.std.proofs.lemmas.Bool.Decides.{nat_tests}
 use Rattle.byte_unit_math.specs.Bounds.{scale, places_of_decimal, whole_limit}
-use Rattle.byte_unit_base.specs.UnitScan.{unit_step, start as unit_start, UnitScan}
-use Rattle.byte_unit_base.specs.SizeScan.{size_step, after_number, fixed_point, SizeScan, Beginning, Whole, Point}
-use Rattle.byte_unit_base.specs.SizeScan.{Fraction, Gap, UnitAt}
+use Rattle.byte_unit_base.specs.Reading.Machines.{unit_step, start as unit_start, UnitScan, size_step, after_number}
+use Rattle.byte_unit_base.specs.Reading.Machines.{fixed_point, SizeScan, Beginning, Whole, Point, Fraction, Gap, UnitAt}
 use Rattle.byte_unit_base.proofs.Options.{some_mapped}
 
 -- after the number `n`, the character continues the unit `s`

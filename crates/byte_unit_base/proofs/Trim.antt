@@ -10,9 +10,9 @@ use Rattle.std.proofs.lemmas.List.{take_more, take_all, length-append}
 use Rattle.std.proofs.lemmas.Str.{chars-encodes, encodes-chars, scalars-chars, chars-IsAscii, chars-append, IsUtf8-from_ascii}
 use Rattle.std.proofs.lemmas.Str.{IsCharBoundary-before_ascii, IsUtf8-take}
 use Rattle.std.proofs.lemmas.Str.Ascii.{IsAscii-nil, IsAscii-cons}
-use Rattle.byte_unit_base.specs.ErrorPosition.{leading_white}
-use Rattle.byte_unit_base.specs.SizeText.{trim_of}
-use Rattle.byte_unit_base.specs.ParserEnds.{HasVisibleEnds}
+use Rattle.byte_unit_base.specs.Errors.Position.{leading_white}
+use Rattle.byte_unit_base.specs.Grammar.SizeText.{trim_of}
+use Rattle.byte_unit_base.specs.Reading.Ends.{HasVisibleEnds}
 
 -- without leading white space, characters still are Unicode scalar values
 scalars_skip : (cs : List ℕ) → all_scalars cs ≡ true → all_scalars (skip_leading_whitespace cs) ≡ true

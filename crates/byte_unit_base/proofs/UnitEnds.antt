@@ -7,14 +7,12 @@ use Rattle.std.proofs.lemmas.List.{length-drop, drop-drop}
 use Rattle.std.proofs.lemmas.List.Elements.{All-replicate}
 use Rattle.std.proofs.lemmas.Str.{IsAscii-append}
 use Rattle.std.proofs.lemmas.Str.Ascii.{IsAscii-from_all}
-use Rattle.byte_unit_base.specs.Spelling.{Flags}
-use Rattle.byte_unit_base.specs.SizeText.{space}
-use Rattle.byte_unit_base.specs.Scan.{run}
-use Rattle.byte_unit_base.specs.UnitScan.{UnitScan, unit_step, unit_of, start as unit_start}
-use Rattle.byte_unit_base.specs.UnitWord.{unit_stop}
-use Rattle.byte_unit_base.specs.SizeScan.{SizeScan, Beginning, Gap, UnitAt, size_step}
-use Rattle.byte_unit_base.specs.ParserEnds.{IsFirst, IsNoSpace, EndsNumber, IsLeadingNumber, IsStopAt, IsStoppedBefore}
-use Rattle.byte_unit_base.specs.ParserEnds.{IsUnitStop}
+use Rattle.byte_unit_base.specs.Grammar.Spelling.{Flags}
+use Rattle.byte_unit_base.specs.Grammar.SizeText.{space}
+use Rattle.byte_unit_base.specs.Reading.Machines.{run, UnitScan, unit_step, unit_of, start as unit_start, SizeScan}
+use Rattle.byte_unit_base.specs.Reading.Machines.{Beginning, Gap, UnitAt, size_step}
+use Rattle.byte_unit_base.specs.Reading.Ends.{unit_stop, IsFirst, IsNoSpace, EndsNumber, IsLeadingNumber, IsStopAt}
+use Rattle.byte_unit_base.specs.Reading.Ends.{IsStoppedBefore, IsUnitStop}
 use Rattle.byte_unit_base.specs.declared.stop.Reason.TheVariants.{InUnit}
 use Rattle.byte_unit_base.specs.declared.stop.UnitStop.{UnitStop}
 use Rattle.byte_unit_base.proofs.Options.{some_passed}

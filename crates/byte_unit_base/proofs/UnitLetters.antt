@@ -10,13 +10,13 @@ use Rattle.core.proofs.dec2flt.DigitsLemmas.{every_below}
 use Rattle.core.proofs.dec2flt.Eight.{bytes_of, bytes-drop, zeros_after}
 use lib.Lanes.{digits_l, number_l}
 use mir.Val.{bool_byte}
-use Rattle.byte_unit_base.specs.Shape.{shape}
-use Rattle.byte_unit_base.specs.ParserEnds.{first_eight, IsLineOf, IsLeadingUnit}
-use Rattle.byte_unit_base.specs.UnitScan.{unit_step, multiple_step, multiple_shape, prefix_at, is_i, scan_of, start}
-use Rattle.byte_unit_base.specs.UnitScan.{Multiple, One, Decimal, Binary, Empty}
-use Rattle.byte_unit_base.specs.UnitWord.{letter_power, multiple_of, word_of, bits_len, has_prefix}
-use Rattle.byte_unit_base.specs.Units.{shape_of}
-use Rattle.byte_unit_base.specs.ParseSpec.{binary_of}
+use Rattle.byte_unit_base.specs.Grammar.Shape.{shape}
+use Rattle.byte_unit_base.specs.Reading.Ends.{first_eight, IsLineOf, IsLeadingUnit, letter_power, multiple_of, word_of}
+use Rattle.byte_unit_base.specs.Reading.Ends.{bits_len, has_prefix}
+use Rattle.byte_unit_base.specs.Reading.Machines.{unit_step, multiple_step, multiple_shape, prefix_at, is_i, scan_of}
+use Rattle.byte_unit_base.specs.Reading.Machines.{start, Multiple, One, Decimal, Binary, Empty}
+use Rattle.byte_unit_base.specs.Grammar.Units.{shape_of}
+use Rattle.byte_unit_base.specs.Reading.ParseSpec.{binary_of}
 use Rattle.byte_unit_base.specs.declared.unit.Unit.{Unit as UnitName}
 use Rattle.byte_unit_base.specs.declared.unit.Unit.TheVariants.{Bit}
 use Rattle.byte_unit_base.specs.declared.unit.tables.TheConstants.{LETTER_POWERS}

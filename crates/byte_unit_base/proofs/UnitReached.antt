@@ -10,13 +10,13 @@ use Rattle.std.specs.Char.{to_ascii_lowercase, to_ascii_uppercase}
 use Rattle.std.specs.Str.{str_to_ascii_lowercase}
 use Rattle.std.proofs.lemmas.Bool.{cond_both, eqb-true}
 use Rattle.std.proofs.lemmas.Bool.Decides.{nat_tests}
-use Rattle.byte_unit_base.specs.Shape.{Shape}
-use Rattle.byte_unit_base.specs.Version.{current}
-use Rattle.byte_unit_base.specs.Spelling.{Flags, IsPrefixLetter, SpellsBinary, SpellsCount, Spells}
-use Rattle.byte_unit_base.specs.UnitScan.{unit_step, unit_of, start, scan_of, position_in, prefix_at, multiple_step}
-use Rattle.byte_unit_base.specs.UnitScan.{word_step, or_word, count_of, multiple_shape, IsMultipleText, IsWordText}
-use Rattle.byte_unit_base.specs.UnitScan.{SuffixPart, Empty, UpperB, LowerB, Bi, Bit, Bits, Multiple, One, Decimal}
-use Rattle.byte_unit_base.specs.UnitScan.{Binary, UnitScan}
+use Rattle.byte_unit_base.specs.Grammar.Shape.{Shape}
+use Rattle.byte_unit_base.specs.Grammar.Version.{current}
+use Rattle.byte_unit_base.specs.Grammar.Spelling.{Flags, IsPrefixLetter, SpellsBinary, SpellsCount, Spells}
+use Rattle.byte_unit_base.specs.Reading.Machines.{unit_step, unit_of, start, scan_of, position_in, prefix_at}
+use Rattle.byte_unit_base.specs.Reading.Machines.{multiple_step, word_step, or_word, count_of, multiple_shape}
+use Rattle.byte_unit_base.specs.Reading.Machines.{IsMultipleText, IsWordText, SuffixPart, Empty, UpperB, LowerB, Bi}
+use Rattle.byte_unit_base.specs.Reading.Machines.{Bit, Bits, Multiple, One, Decimal, Binary, UnitScan}
 use Rattle.byte_unit_base.proofs.Lists.{push_last}
 use Rattle.byte_unit_base.proofs.Options.{some_mapped}
 

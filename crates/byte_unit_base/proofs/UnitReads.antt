@@ -4,22 +4,20 @@ use Rattle.std.proofs.Common.{◌≡◌, ℕ, ◌⊎◌, inl, inr, List, [], ◌
 use Rattle.std.proofs.Common.{append-nil, false, true}
 use Rattle.std.specs.Str.{str_to_ascii_lowercase}
 use Rattle.std.specs.Result.{result_map_both}
-use Rattle.byte_unit_base.specs.Shape.{Shape}
-use Rattle.byte_unit_base.specs.Version.{current}
-use Rattle.byte_unit_base.specs.Units.{shape_of}
-use Rattle.byte_unit_base.specs.UnitLists.{unit_of_shape}
-use Rattle.byte_unit_base.specs.Parsed.{parsed_unit}
-use Rattle.byte_unit_base.specs.Errors.{unit_fault}
-use Rattle.byte_unit_base.specs.Spelling.{Flags, Spells}
-use Rattle.byte_unit_base.specs.SizeText.{trim_of}
-use Rattle.byte_unit_base.specs.ViablePrefix.{ParserState, after_b, after_bi, after_bit, after_bits, IsWord, IsPrefix}
-use Rattle.byte_unit_base.specs.ViablePrefix.{IsViableWordPrefix, IsViableUnitPrefix}
-use Rattle.byte_unit_base.specs.Fault.{IsUnitFault, fault_at_end}
-use Rattle.byte_unit_base.specs.Readings.{IsUnitReading}
-use Rattle.byte_unit_base.specs.Scan.{read}
-use Rattle.byte_unit_base.specs.UnitScan.{unit_step, unit_scan, unit_of, unit_at_end, scan_of, word_parser_state}
-use Rattle.byte_unit_base.specs.UnitScan.{multiple_parser_state, IsMultipleText, SuffixPart, Empty, UpperB, LowerB, Bi}
-use Rattle.byte_unit_base.specs.UnitScan.{Bit, Bits, Multiple, One, Decimal, Binary}
+use Rattle.byte_unit_base.specs.Grammar.Shape.{Shape}
+use Rattle.byte_unit_base.specs.Grammar.Version.{current}
+use Rattle.byte_unit_base.specs.Grammar.Units.{shape_of, unit_of_shape}
+use Rattle.byte_unit_base.specs.Reading.Parsed.{parsed_unit}
+use Rattle.byte_unit_base.specs.Errors.Meaning.{unit_fault}
+use Rattle.byte_unit_base.specs.Grammar.Spelling.{Flags, Spells}
+use Rattle.byte_unit_base.specs.Grammar.SizeText.{trim_of}
+use Rattle.byte_unit_base.specs.Errors.ViablePrefix.{ParserState, after_b, after_bi, after_bit, after_bits, IsWord}
+use Rattle.byte_unit_base.specs.Errors.ViablePrefix.{IsPrefix, IsViableWordPrefix, IsViableUnitPrefix}
+use Rattle.byte_unit_base.specs.Errors.Fault.{IsUnitFault, fault_at_end}
+use Rattle.byte_unit_base.specs.Reading.Results.{IsUnitReading}
+use Rattle.byte_unit_base.specs.Reading.Machines.{read, unit_step, unit_scan, unit_of, unit_at_end, scan_of}
+use Rattle.byte_unit_base.specs.Reading.Machines.{word_parser_state, multiple_parser_state, IsMultipleText, SuffixPart}
+use Rattle.byte_unit_base.specs.Reading.Machines.{Empty, UpperB, LowerB, Bi, Bit, Bits, Multiple, One, Decimal, Binary}
 use Rattle.byte_unit_base.specs.declared.unit.Unit.{Unit as UnitName}
 use Rattle.byte_unit_base.specs.declared.errors.UnitParseError.{UnitParseError}
 use Rattle.byte_unit_base.proofs.Scans.{EndsIn, IsScanOf, IsAnswer, one_answer, reads_meaning, reads_fault}

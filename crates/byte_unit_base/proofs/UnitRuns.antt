@@ -8,15 +8,17 @@ use Rattle.std.proofs.Common.{arith, Bool, not, option_map, None, ◌⊎◌, ◌
 use Rattle.std.proofs.lemmas.Bool.{cases_lt}
 use Rattle.std.proofs.lemmas.Bool.Decides.{nat_tests}
 use Rattle.std.specs.Char.{to_ascii_lowercase}
-use Rattle.byte_unit_base.specs.Shape.{Shape, shape}
-use Rattle.byte_unit_base.specs.Version.{current}
-use Rattle.byte_unit_base.specs.Spelling.{Flags, IsPrefixLetter, SpellsCount, SpellsBinary, SpellsPrefix, Spells}
-use Rattle.byte_unit_base.specs.ViablePrefix.{ParserState, before_unit, after_prefix, after_b, after_bi, after_bit}
-use Rattle.byte_unit_base.specs.ViablePrefix.{after_bits, IsWord, IsViableWordPrefix, IsViableUnitPrefix}
-use Rattle.byte_unit_base.specs.Scan.{run}
-use Rattle.byte_unit_base.specs.UnitScan.{unit_step, unit_of, unit_scan, scan_of, prefix_at, count_of, SuffixPart}
-use Rattle.byte_unit_base.specs.UnitScan.{start, multiple_shape, IsWordText, word_parser_state, multiple_parser_state}
-use Rattle.byte_unit_base.specs.UnitScan.{Empty, UpperB, LowerB, Bi, Bit, Bits, Multiple, One, Decimal, Binary, UnitScan}
+use Rattle.byte_unit_base.specs.Grammar.Shape.{Shape, shape}
+use Rattle.byte_unit_base.specs.Grammar.Version.{current}
+use Rattle.byte_unit_base.specs.Grammar.Spelling.{Flags, IsPrefixLetter, SpellsCount, SpellsBinary, SpellsPrefix}
+use Rattle.byte_unit_base.specs.Grammar.Spelling.{Spells}
+use Rattle.byte_unit_base.specs.Errors.ViablePrefix.{ParserState, before_unit, after_prefix, after_b, after_bi}
+use Rattle.byte_unit_base.specs.Errors.ViablePrefix.{after_bit, after_bits, IsWord, IsViableWordPrefix}
+use Rattle.byte_unit_base.specs.Errors.ViablePrefix.{IsViableUnitPrefix}
+use Rattle.byte_unit_base.specs.Reading.Machines.{run, unit_step, unit_of, unit_scan, scan_of, prefix_at, count_of}
+use Rattle.byte_unit_base.specs.Reading.Machines.{SuffixPart, start, multiple_shape, IsWordText, word_parser_state}
+use Rattle.byte_unit_base.specs.Reading.Machines.{multiple_parser_state, Empty, UpperB, LowerB, Bi, Bit, Bits, Multiple}
+use Rattle.byte_unit_base.specs.Reading.Machines.{One, Decimal, Binary, UnitScan}
 use Rattle.byte_unit_base.proofs.Lists.{from_lowercase}
 use Rattle.byte_unit_base.proofs.Scans.{run_through, run_step, RunsTo, IsScanned}
 

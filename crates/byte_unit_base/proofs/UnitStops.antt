@@ -6,16 +6,15 @@ use Rattle.std.proofs.Common.{◌≡◌, ℕ, ◌+◌, ◌≤◌, List, [], ◌�
 use Rattle.std.proofs.Common.{sym, ap, ◌∙◌, arith, inl, inr, length-drop, replicate, one-add, chars}
 use Rattle.std.proofs.Common.{encode_utf8_all, IsUtf8, IsAscii, take_all}
 use Rattle.std.proofs.lemmas.Str.{encodes-chars, chars-IsAscii}
-use Rattle.byte_unit_base.specs.Shape.{Shape}
-use Rattle.byte_unit_base.specs.Version.{current}
-use Rattle.byte_unit_base.specs.Spelling.{Flags, Spells}
-use Rattle.byte_unit_base.specs.Scan.{run}
-use Rattle.byte_unit_base.specs.UnitScan.{unit_step, unit_of, unit_parser_state, word_parser_state, scan_of}
-use Rattle.byte_unit_base.specs.UnitScan.{start, UnitScan, Multiple, One, SuffixPart, Empty, Bi}
-use Rattle.byte_unit_base.specs.UnitWord.{unit_stop, stop_parser_state}
-use Rattle.byte_unit_base.specs.Fault.{fault_at, fault_at_end, stops_at_bi, IsFaultAfter}
-use Rattle.byte_unit_base.specs.ErrorPosition.{next_char}
-use Rattle.byte_unit_base.specs.ParserEnds.{IsAfterLine, IsFirst, IsLeadingUnit, unit_stop_fault}
+use Rattle.byte_unit_base.specs.Grammar.Shape.{Shape}
+use Rattle.byte_unit_base.specs.Grammar.Version.{current}
+use Rattle.byte_unit_base.specs.Grammar.Spelling.{Flags, Spells}
+use Rattle.byte_unit_base.specs.Reading.Machines.{run, unit_step, unit_of, unit_parser_state, word_parser_state}
+use Rattle.byte_unit_base.specs.Reading.Machines.{scan_of, start, UnitScan, Multiple, One, SuffixPart, Empty, Bi}
+use Rattle.byte_unit_base.specs.Reading.Ends.{unit_stop, stop_parser_state, IsAfterLine, IsFirst, IsLeadingUnit}
+use Rattle.byte_unit_base.specs.Reading.Ends.{unit_stop_fault}
+use Rattle.byte_unit_base.specs.Errors.Fault.{fault_at, fault_at_end, stops_at_bi, IsFaultAfter}
+use Rattle.byte_unit_base.specs.Errors.Position.{next_char}
 use Rattle.byte_unit_base.proofs.Options.{none_or_some}
 use Rattle.byte_unit_base.proofs.Scans.{reached}
 use Rattle.byte_unit_base.proofs.UnitReached.{Spells-reached}

@@ -2,7 +2,7 @@
 
 ghost use Rattle.std.specs.Prelude.{◌≡◌, ⊤, Some};
 ghost use Rattle.std.specs.Fmt.{DisplaysOnOk};
-ghost use Rattle.byte_unit_base.specs.FaultText.{expected_text, others_text};
+ghost use Rattle.byte_unit_base.specs.Errors.Text.{expected_text, others_text};
 
 use crate::stop::Expected;
 use byte_unit_math::Decimal;
@@ -61,7 +61,7 @@ pub struct UnitParseError {
 /// The model is the record of the fields. It hides the reference from the borrow checker, which has no rule for passing
 /// on a result that holds one beside a size.
 impl Model for UnitParseError {
-    ghost use Rattle.byte_unit_base.specs.UnitErrorView.{UnitErrorView};
+    ghost use Rattle.byte_unit_base.specs.Errors.UnitErrorView.{UnitErrorView};
 
     ghost Value = { UnitErrorView };
 
@@ -186,7 +186,7 @@ impl Clone for JsonSizeError {
 // `output` is what `Display` writes without flags of the formatter, and `styled_output` what it writes under any.
 
 impl fmt::Display for ExceededBoundsError {
-    ghost use Rattle.byte_unit_base.specs.FaultText.{exceeded_text};
+    ghost use Rattle.byte_unit_base.specs.Errors.Text.{exceeded_text};
 
     ghost output = { exceeded_text };
 
@@ -200,7 +200,7 @@ impl fmt::Display for ExceededBoundsError {
 impl Error for ExceededBoundsError {}
 
 impl fmt::Display for ValueParseError {
-    ghost use Rattle.byte_unit_base.specs.FaultText.{value_text, styled_value_text};
+    ghost use Rattle.byte_unit_base.specs.Errors.Text.{value_text, styled_value_text};
 
     ghost output = { value_text };
 
@@ -224,7 +224,7 @@ impl fmt::Display for ValueParseError {
 impl Error for ValueParseError {}
 
 impl fmt::Display for UnitParseError {
-    ghost use Rattle.byte_unit_base.specs.FaultText.{unit_text};
+    ghost use Rattle.byte_unit_base.specs.Errors.Text.{unit_text};
 
     ghost output = { unit_text };
 
@@ -257,7 +257,7 @@ impl From<UnitParseError> for ParseError {
 }
 
 impl fmt::Display for ParseError {
-    ghost use Rattle.byte_unit_base.specs.FaultText.{parse_text, styled_parse_text};
+    ghost use Rattle.byte_unit_base.specs.Errors.Text.{parse_text, styled_parse_text};
 
     ghost output = { parse_text };
 
@@ -274,7 +274,7 @@ impl fmt::Display for ParseError {
 impl Error for ParseError {}
 
 impl fmt::Display for LocatedError {
-    ghost use Rattle.byte_unit_base.specs.FaultText.{located_text};
+    ghost use Rattle.byte_unit_base.specs.Errors.Text.{located_text};
 
     ghost output = { λ e. located_text e.error e.location };
 
@@ -286,7 +286,7 @@ impl fmt::Display for LocatedError {
 
 /// Writes the words that follow a message, with a space before them, or nothing if all of the string is wrong.
 impl fmt::Display for Location {
-    ghost use Rattle.byte_unit_base.specs.ErrorPosition.{location_words};
+    ghost use Rattle.byte_unit_base.specs.Errors.Position.{location_words};
 
     ghost output = { λ location. Some (location_words location) };
 
@@ -335,7 +335,7 @@ fn write_others<W: fmt::Write>(others: &[char], f: &mut fmt::Formatter<W>) -> fm
 }
 
 impl fmt::Display for JsonSizeError {
-    ghost use Rattle.byte_unit_base.specs.FaultText.{json_text, styled_json_text};
+    ghost use Rattle.byte_unit_base.specs.Errors.Text.{json_text, styled_json_text};
 
     ghost output = { json_text };
 

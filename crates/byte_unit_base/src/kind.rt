@@ -1,7 +1,7 @@
 //! The kind of a size: bytes or bits.
 
 ghost use Rattle.std.specs.Prelude.{◌≡◌, ◌≤◌};
-ghost use Rattle.byte_unit_base.specs.Units.{shape_of};
+ghost use Rattle.byte_unit_base.specs.Grammar.Units.{shape_of};
 
 use crate::unit::Unit;
 
@@ -15,7 +15,7 @@ pub enum Kind {
 }
 
 impl Kind {
-    ghost use Rattle.byte_unit_base.specs.Kinds.{bits_in, own_unit};
+    ghost use Rattle.byte_unit_base.specs.Sizes.Kinds.{bits_in, own_unit};
 
     /// Returns the number of bits in one of the kind: 8 or 1.
     ///

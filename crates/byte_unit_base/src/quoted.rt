@@ -4,9 +4,9 @@ ghost use Rattle.std.specs.Prelude.{◌≡◌, ◌+◌, ◌<◌, ◌≤◌, ◌+
 ghost use Rattle.std.specs.Fmt.{digits, digit_glyph};
 ghost use Rattle.std.specs.List.{flat_map};
 ghost use Rattle.std.specs.Str.{chars};
-ghost use Rattle.byte_unit_base.specs.PutAfter.{IsPutAfter};
-ghost use Rattle.byte_unit_base.specs.Quoted.{escape, escape_byte, escape_char, is_unseen, quote};
-ghost use Rattle.byte_unit_base.specs.Quoted.{quoted_len as len_of_quoted};
+ghost use Rattle.byte_unit_base.specs.Errors.PutAfter.{IsPutAfter};
+ghost use Rattle.byte_unit_base.specs.Errors.Quoted.{escape, escape_byte, escape_char, is_unseen, quote};
+ghost use Rattle.byte_unit_base.specs.Errors.Quoted.{quoted_len as len_of_quoted};
 
 use crate::stop::begins_character;
 use std::{fmt, str};
@@ -32,7 +32,7 @@ pub const MAX_QUOTE_LEN: usize = 482;
 pub struct Quoted<'a>(pub &'a [u8]);
 
 impl<'a> fmt::Display for Quoted<'a> {
-    ghost use Rattle.byte_unit_base.specs.Quoted.{quote};
+    ghost use Rattle.byte_unit_base.specs.Errors.Quoted.{quote};
 
     ghost output = { λ text. Some (quote text.0.now) };
 
@@ -195,7 +195,7 @@ fn put(bytes: &[u8], buffer: &mut [u8], begin: usize) -> usize
 
 /// Returns `true` if the character is a format character (category `Cf` of Unicode 16), or a separator (`Zs`, `Zl` and
 /// `Zp`) other than the space.
-#[tactic(auto, unfolding(crate::specs::Quoted::is_unseen))]
+#[tactic(auto, unfolding(crate::specs::Errors::Quoted::is_unseen))]
 fn is_unseen(c: char) -> bool
     ensures { result ≡ is_unseen c }
 {

@@ -1,15 +1,13 @@
 //! Parses a number and a unit: from bytes that are not trimmed, and then, if that stops, from the trimmed string.
 
 ghost use Rattle.std.specs.Prelude.{◌≡◌, ◌≤◌, length, take, drop, replicate, IfSome, IsTrue, MatchOption};
-ghost use Rattle.byte_unit_base.specs.SizeText.{space, trim_of};
-ghost use Rattle.byte_unit_base.specs.ParserEnds.{IsFirst, IsLineOf, IsNoSpace};
-ghost use Rattle.byte_unit_base.specs.ParserEnds.{IsNumberAndUnitEnd, IsVisibleNext, HasVisibleEnds};
+ghost use Rattle.byte_unit_base.specs.Grammar.SizeText.{space, trim_of};
+ghost use Rattle.byte_unit_base.specs.Reading.Ends.{IsFirst, IsLineOf, IsNoSpace, IsNumberAndUnitEnd, IsVisibleNext};
+ghost use Rattle.byte_unit_base.specs.Reading.Ends.{HasVisibleEnds, IsNumberOrStop};
 ghost use Rattle.std.specs.Str.{IsAscii, IsUtf8, chars};
-ghost use Rattle.byte_unit_base.specs.Readings.{IsNumberReading};
-ghost use Rattle.byte_unit_base.specs.SizeReading.{IsNotUtf8};
-ghost use Rattle.byte_unit_base.specs.ErrorPosition.{leading_white};
-ghost use Rattle.byte_unit_base.specs.Outcome.{IsNumberOrStop};
-ghost use Rattle.byte_unit_base.specs.Spelling.{flags_of};
+ghost use Rattle.byte_unit_base.specs.Reading.Results.{IsNumberReading, IsNotUtf8};
+ghost use Rattle.byte_unit_base.specs.Errors.Position.{leading_white};
+ghost use Rattle.byte_unit_base.specs.Grammar.Spelling.{flags_of};
 
 use crate::read::digits::read_number;
 use crate::read::unit::read_unit;

@@ -2,14 +2,14 @@
 
 ghost use Rattle.std.specs.Prelude.{◌≡◌, ℕ, List, ◌+◌, ◌<◌, ◌≤◌, take, ◌*◌, SomeIff, IfSome, IfOk, IfErr, Ok};
 ghost use Rattle.byte_unit_math.specs.Bounds.{size_limit};
-ghost use Rattle.byte_unit_base.specs.Kinds.{bits_in, flags_for};
-ghost use Rattle.byte_unit_base.specs.Readings.{IsNumberReading};
-ghost use Rattle.byte_unit_base.specs.SizeReading.{IsReadingAs, IsBytesReadingAs, without_location};
-ghost use Rattle.byte_unit_base.specs.Errors.{size_fault};
-ghost use Rattle.byte_unit_base.specs.Expected.{expected_codes, named_in};
-ghost use Rattle.byte_unit_base.specs.SizeOrNone.{IsSizeOfUnit, IsSizeOfDecimal};
-ghost use Rattle.byte_unit_base.specs.Line.{IsLine};
-ghost use Rattle.byte_unit_base.specs.ErrorPosition.{IsSizePosition, IsSizeLocation, IsLocationOf};
+ghost use Rattle.byte_unit_base.specs.Sizes.Kinds.{bits_in, flags_for};
+ghost use Rattle.byte_unit_base.specs.Reading.Results.{IsNumberReading, IsReadingAs, IsBytesReadingAs};
+ghost use Rattle.byte_unit_base.specs.Reading.Results.{without_location};
+ghost use Rattle.byte_unit_base.specs.Errors.Meaning.{size_fault};
+ghost use Rattle.byte_unit_base.specs.Errors.Expected.{expected_codes, named_in};
+ghost use Rattle.byte_unit_base.specs.Sizes.OrNone.{IsSizeOfUnit, IsSizeOfDecimal};
+ghost use Rattle.byte_unit_base.specs.Reading.Line.{IsLine};
+ghost use Rattle.byte_unit_base.specs.Errors.Position.{IsSizePosition, IsSizeLocation, IsLocationOf};
 ghost use Rattle.byte_unit_base.specs.declared.errors.ParseError.TheVariants.{Value};
 ghost use Rattle.byte_unit_base.specs.declared.errors.ValueParseError.TheVariants.{ExceededBounds};
 

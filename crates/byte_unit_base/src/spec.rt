@@ -1,10 +1,10 @@
 //! The options of the parsers: how a size is read, and how its unit is.
 
 ghost use Rattle.std.specs.Prelude.{◌≡◌};
-ghost use Rattle.byte_unit_base.specs.Kinds.{flags_for};
-ghost use Rattle.byte_unit_base.specs.ParseSpec.{parse_spec, unit_meant};
-ghost use Rattle.byte_unit_base.specs.Spelling.{flags_of};
-ghost use Rattle.byte_unit_base.specs.Units.{shape_of};
+ghost use Rattle.byte_unit_base.specs.Sizes.Kinds.{flags_for};
+ghost use Rattle.byte_unit_base.specs.Reading.ParseSpec.{parse_spec, unit_meant};
+ghost use Rattle.byte_unit_base.specs.Grammar.Spelling.{flags_of};
+ghost use Rattle.byte_unit_base.specs.Grammar.Units.{shape_of};
 
 use crate::{Kind, Unit};
 

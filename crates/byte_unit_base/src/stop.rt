@@ -1,12 +1,11 @@
 //! Where and why the parsers stop, the character there, and the error by these.
 
 ghost use Rattle.std.specs.Prelude.{◌≡◌, ℕ, Bool, ◌≤◌, length};
-ghost use Rattle.byte_unit_base.specs.UnitWord.{word_of, letters_of};
-ghost use Rattle.byte_unit_base.specs.ParserEnds.{number_stop_fault, stop_fault};
+ghost use Rattle.byte_unit_base.specs.Reading.Ends.{word_of, letters_of, number_stop_fault, stop_fault};
 ghost use Rattle.std.specs.Str.{IsAscii, chars};
-ghost use Rattle.byte_unit_base.specs.Errors.{size_fault, value_fault};
-ghost use Rattle.byte_unit_base.specs.Expected.{expected_codes, named_in};
-ghost use Rattle.byte_unit_base.specs.ErrorPosition.{begins_character, character_number, location_at, next_char};
+ghost use Rattle.byte_unit_base.specs.Errors.Meaning.{size_fault, value_fault};
+ghost use Rattle.byte_unit_base.specs.Errors.Expected.{expected_codes, named_in};
+ghost use Rattle.byte_unit_base.specs.Errors.Position.{begins_character, character_number, location_at, next_char};
 
 use crate::spec::Flags;
 use crate::unit::tables::BEGINNING;
@@ -100,12 +99,12 @@ pub enum Expected {
 }
 
 impl UnitStop {
-    ghost use Rattle.byte_unit_base.specs.UnitWord.{stop_parser_state};
-    ghost use Rattle.byte_unit_base.specs.ParserEnds.{unit_stop_fault};
-    ghost use Rattle.byte_unit_base.specs.Expected.{expected_codes, named_in};
-    ghost use Rattle.byte_unit_base.specs.Version.{current};
-    ghost use Rattle.byte_unit_base.specs.Fault.{fault_at};
-    ghost use Rattle.byte_unit_base.specs.Errors.{unit_fault};
+    ghost use Rattle.byte_unit_base.specs.Reading.Ends.{stop_parser_state};
+    ghost use Rattle.byte_unit_base.specs.Reading.Ends.{unit_stop_fault};
+    ghost use Rattle.byte_unit_base.specs.Errors.Expected.{expected_codes, named_in};
+    ghost use Rattle.byte_unit_base.specs.Grammar.Version.{current};
+    ghost use Rattle.byte_unit_base.specs.Errors.Fault.{fault_at};
+    ghost use Rattle.byte_unit_base.specs.Errors.Meaning.{unit_fault};
 
     /// Returns the error of a string in which the parser of a unit stops here, by the character there.
     ///
@@ -239,7 +238,7 @@ pub fn location_at(text: &[u8], index: usize, next: Option<char>) -> Location
 }
 
 impl Expected {
-    ghost use Rattle.byte_unit_base.specs.Expected.{expected_codes};
+    ghost use Rattle.byte_unit_base.specs.Errors.Expected.{expected_codes};
 
     /// Returns the characters.
     #[inline(always)]

@@ -2,10 +2,10 @@
 
 ghost use Rattle.std.specs.Prelude.{◌≡◌, ◌≤◌};
 ghost use Rattle.byte_unit_math.specs.Bounds.{unit_limit};
-ghost use Rattle.byte_unit_base.specs.Shape.{bits, twos, fives};
-ghost use Rattle.byte_unit_base.specs.Units.{shape_of};
-ghost use Rattle.byte_unit_base.specs.Version.{unit_name};
-ghost use Rattle.byte_unit_base.specs.ParseSpec.{binary_of};
+ghost use Rattle.byte_unit_base.specs.Grammar.Shape.{bits, twos, fives};
+ghost use Rattle.byte_unit_base.specs.Grammar.Units.{shape_of};
+ghost use Rattle.byte_unit_base.specs.Grammar.Version.{unit_name};
+ghost use Rattle.byte_unit_base.specs.Reading.ParseSpec.{binary_of};
 
 use crate::read::unit::unit_of;
 use crate::unit::tables::{UNIT_BITS, UNITS};
@@ -117,7 +117,7 @@ pub(crate) struct UnitData {
 }
 
 impl Unit {
-    ghost use Rattle.byte_unit_base.specs.Units.{shape_of};
+    ghost use Rattle.byte_unit_base.specs.Grammar.Units.{shape_of};
 
     /// Returns the number of bits of the unit: from 1 to 2^93.
     ///
@@ -220,7 +220,7 @@ impl Unit {
 
 /// Converts a unit to its number of bits, as `as_bits_u128` does.
 impl From<Unit> for u128 {
-    ghost use Rattle.byte_unit_base.specs.Units.{shape_of};
+    ghost use Rattle.byte_unit_base.specs.Grammar.Units.{shape_of};
 
     ghost from_gives = { λ unit n. n ≡ bits (shape_of unit) };
 
@@ -232,7 +232,7 @@ impl From<Unit> for u128 {
 /// Writes the name of the unit. The flags of the formatter are ignored.
 impl fmt::Display for Unit {
     ghost use Rattle.std.specs.Prelude.{Some};
-    ghost use Rattle.byte_unit_base.specs.Units.{shape_of};
+    ghost use Rattle.byte_unit_base.specs.Grammar.Units.{shape_of};
 
     // What is written without flags, and under any.
     ghost output = { λ unit. Some (unit_name unit) };

@@ -2,10 +2,10 @@
 //! Laws of the constants of `Bit`: public functions whose contracts are the laws.
 
 ghost use Rattle.std.specs.Prelude.{◌≡◌, ◌*◌, ◌+◌, MatchOption};
-ghost use Rattle.byte_unit_base.specs.Shape.{bits};
+ghost use Rattle.byte_unit_base.specs.Grammar.Shape.{bits};
 ghost use Rattle.byte_unit_math.specs.Bounds.{size_limit};
-ghost use Rattle.byte_unit_base.specs.Units.{shape_of};
-ghost use Rattle.byte_unit_base.specs.Kinds.{bits_in};
+ghost use Rattle.byte_unit_base.specs.Grammar.Units.{shape_of};
+ghost use Rattle.byte_unit_base.specs.Sizes.Kinds.{bits_in};
 ghost use Rattle.byte_unit_base.specs.declared.kind.Kind.TheVariants.{Bit as InBits};
 
 use crate::Bit;

@@ -2,7 +2,7 @@
 use Rattle.std.proofs.Common.{◌≡◌, ◌≢◌, ℕ, ◌+◌, ◌≤◌, List, [], ◌∷◌, length, arith, length-append}
 use Rattle.std.proofs.lemmas.Bool.Decides.{nat_tests}
 use Rattle.std.specs.Fmt.{debug_escape}
-use Rattle.byte_unit_base.specs.ErrorPosition.{location_words}
+use Rattle.byte_unit_base.specs.Errors.Position.{location_words}
 use Rattle.byte_unit_base.specs.declared.errors.Location.{Location}
 use Rattle.byte_unit_c.specs.Parse.{quoting}
 

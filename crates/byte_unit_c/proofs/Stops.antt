@@ -1,9 +1,9 @@
 -- What is returned and written where the parser stops in a string.
 use Rattle.std.proofs.Common.{◌≢◌, ℕ, List, Option, Some, Err, refl}
-use Rattle.byte_unit_base.specs.ErrorPosition.{IsSizePosition}
-use Rattle.byte_unit_base.specs.Fault.{Fault, exceeded, not_number, no_value, too_long, bad_unit}
-use Rattle.byte_unit_base.specs.Kinds.{flags_for}
-use Rattle.byte_unit_base.specs.Outcome.{IsStop}
+use Rattle.byte_unit_base.specs.Errors.Position.{IsSizePosition}
+use Rattle.byte_unit_base.specs.Errors.Fault.{Fault, exceeded, not_number, no_value, too_long, bad_unit}
+use Rattle.byte_unit_base.specs.Sizes.Kinds.{flags_for}
+use Rattle.byte_unit_base.specs.Reading.Ends.{IsStop}
 use Rattle.byte_unit_base.specs.declared.stop.Reason.{Reason}
 use Rattle.byte_unit_base.specs.declared.stop.Stop.{Stop}
 use Rattle.byte_unit_base.specs.declared.spec.ParseSpec.{ParseSpec}

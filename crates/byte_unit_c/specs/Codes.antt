@@ -1,8 +1,7 @@
 -- The codes of units and unit types in the C API. A code is an index into a list.
 use Rattle.std.specs.Prelude.{◌≡◌, ℕ, List, [], ◌∷◌, Option, Some, slice_get}
-use Rattle.byte_unit_base.specs.Shape.{Shape}
-use Rattle.byte_unit_base.specs.Units.{shape_of}
-use Rattle.byte_unit_base.specs.UnitLists.{units}
+use Rattle.byte_unit_base.specs.Grammar.Shape.{Shape}
+use Rattle.byte_unit_base.specs.Grammar.Units.{shape_of, units}
 use Rattle.byte_unit_choice.specs.declared.unit_type.UnitType.{UnitType}
 use Rattle.byte_unit_choice.specs.declared.unit_type.UnitType.TheVariants.{Binary, Decimal, Both}
 use Rattle.byte_unit_base.specs.declared.unit.Unit.{Unit as UnitName}

@@ -1,9 +1,9 @@
 -- The errors of parsing as the C API reports them.
 use Rattle.std.specs.Prelude.{◌≡◌, ℕ, ◌-◌, Bool, false, List, [], ◌++◌, length, map, take, replicate, nat_lt, slice_set}
 use Rattle.std.specs.Prelude.{if◌then◌else◌, Option, Some}
-use Rattle.byte_unit_base.specs.Fault.{Fault, bad_unit, not_number, no_value, too_long, exceeded}
-use Rattle.byte_unit_base.specs.Errors.{size_fault, unit_fault}
-use Rattle.byte_unit_base.specs.ParserEnds.{stop_fault, unit_stop_fault}
+use Rattle.byte_unit_base.specs.Errors.Fault.{Fault, bad_unit, not_number, no_value, too_long, exceeded}
+use Rattle.byte_unit_base.specs.Errors.Meaning.{size_fault, unit_fault}
+use Rattle.byte_unit_base.specs.Reading.Ends.{stop_fault, unit_stop_fault}
 use Rattle.byte_unit_base.specs.declared.errors.ParseError.{ParseError}
 use Rattle.byte_unit_base.specs.declared.stop.Reason.{Reason}
 use Rattle.byte_unit_base.specs.declared.stop.Stop.{Stop}

@@ -3,7 +3,7 @@
 use Rattle.std.specs.Prelude.{ℕ, ◌-◌, ◌==◌, nat_lt, Bool, true, false, if◌then◌else◌, [], ◌∷◌, Option, Some, None}
 use Rattle.std.specs.Prelude.{slice_get}
 use Rattle.std.specs.Option.{option_map}
-use Rattle.byte_unit_base.specs.ParseSpec.{parse_spec}
+use Rattle.byte_unit_base.specs.Reading.ParseSpec.{parse_spec}
 use Rattle.byte_unit_base.specs.declared.kind.Kind.{Kind}
 use Rattle.byte_unit_base.specs.declared.kind.Kind.TheVariants.{Byte as InBytes, Bit as InBits}
 use Rattle.byte_unit_base.specs.declared.spec.ParseSpec.{ParseSpec}

@@ -2,8 +2,8 @@
 use Rattle.std.specs.Prelude.{◌≡◌, ℕ, ◌+◌, ◌-◌, ◌<◌, ℤ, pos, negsuc, ◌≤ℤ◌, Bool, List, [], ◌∷◌, length}
 use Rattle.std.specs.Prelude.{slice_index, slice_index_or, slice_range, Option, Some, None, Result, Ok, Err}
 use Rattle.std.specs.Prelude.{IfSome, IfNone}
-use Rattle.byte_unit_base.specs.Errors.{size_fault}
-use Rattle.byte_unit_base.specs.SizeReading.{IsBytesReadingAs}
+use Rattle.byte_unit_base.specs.Errors.Meaning.{size_fault}
+use Rattle.byte_unit_base.specs.Reading.Results.{IsBytesReadingAs}
 use Rattle.byte_unit_base.specs.declared.errors.ParseError.{ParseError}
 use Rattle.byte_unit_base.specs.declared.spec.ParseSpec.{ParseSpec}
 use Rattle.byte_unit_c.specs.declared.offsets.Offsets.{Offsets}

@@ -3,13 +3,12 @@ use Rattle.std.specs.Prelude.{◌≡◌, ℕ, ◌<◌, Bool, List, Option, Some,
 use Rattle.std.specs.Prelude.{◌∷◌, ◌++◌, codes}
 use Rattle.std.specs.Fmt.Cut.{IsTextOrCut}
 use Rattle.std.specs.Str.{IsUtf8}
-use Rattle.byte_unit_base.specs.ErrorPosition.{IsSizePosition, IsUnitPosition, IsLocationOf, IsSizeLocation}
-use Rattle.byte_unit_base.specs.ErrorPosition.{IsUnitLocation, location_words}
-use Rattle.byte_unit_base.specs.Errors.{size_fault, unit_fault}
-use Rattle.byte_unit_base.specs.FaultText.{located_text}
-use Rattle.byte_unit_base.specs.Readings.{IsUnitReading}
-use Rattle.byte_unit_base.specs.SizeReading.{IsBytesReadingAs}
-use Rattle.byte_unit_base.specs.Spelling.{flags_of}
+use Rattle.byte_unit_base.specs.Errors.Position.{IsSizePosition, IsUnitPosition, IsLocationOf, IsSizeLocation}
+use Rattle.byte_unit_base.specs.Errors.Position.{IsUnitLocation, location_words}
+use Rattle.byte_unit_base.specs.Errors.Meaning.{size_fault, unit_fault}
+use Rattle.byte_unit_base.specs.Errors.Text.{located_text}
+use Rattle.byte_unit_base.specs.Reading.Results.{IsUnitReading, IsBytesReadingAs}
+use Rattle.byte_unit_base.specs.Grammar.Spelling.{flags_of}
 use Rattle.byte_unit_base.specs.declared.errors.Location.{Location}
 use Rattle.byte_unit_base.specs.declared.errors.ParseError.{ParseError}
 use Rattle.byte_unit_base.specs.declared.errors.ParseError.TheVariants.{Unit as UnitError}

@@ -1,9 +1,9 @@
 //! The errors of parsing in the C API: a code, and a struct of details.
 
 ghost use Rattle.std.specs.Prelude.{◌≡◌, ℕ, List, slice_set};
-ghost use Rattle.byte_unit_base.specs.Errors.{size_fault, value_fault};
-ghost use Rattle.byte_unit_base.specs.Expected.{expected_codes};
-ghost use Rattle.byte_unit_base.specs.Fault.{bad_unit};
+ghost use Rattle.byte_unit_base.specs.Errors.Meaning.{size_fault, value_fault};
+ghost use Rattle.byte_unit_base.specs.Errors.Expected.{expected_codes};
+ghost use Rattle.byte_unit_base.specs.Errors.Fault.{bad_unit};
 ghost use Rattle.byte_unit_c.specs.Error.{code_of, expected_bytes, IsErrorOf};
 
 use crate::values::DecimalParts;

@@ -2,9 +2,9 @@
 
 ghost use Rattle.std.specs.Prelude.{◌≡◌, ℕ, ◌≤◌, List, Option, Result, Ok, IfSome, IfNone, codes};
 ghost use Rattle.std.specs.Str.{IsUtf8};
-ghost use Rattle.byte_unit_base.specs.Kinds.{flags_for};
-ghost use Rattle.byte_unit_base.specs.Quoted.{quote};
-ghost use Rattle.byte_unit_base.specs.Readings.{IsNumberReading};
+ghost use Rattle.byte_unit_base.specs.Sizes.Kinds.{flags_for};
+ghost use Rattle.byte_unit_base.specs.Errors.Quoted.{quote};
+ghost use Rattle.byte_unit_base.specs.Reading.Results.{IsNumberReading};
 ghost use Rattle.byte_unit_base.specs.declared.errors.UnitParseError.{UnitParseError};
 ghost use Rattle.byte_unit_base.specs.declared.unit.Unit.{Unit as UnitName};
 ghost use Rattle.byte_unit_format.specs.Written.{WritesForm};

@@ -4,10 +4,10 @@ ghost use Rattle.std.specs.Prelude.{◌≡◌, ◌<◌, ◌≤◌, ◌∷◌, �
 ghost use Rattle.std.specs.Fmt.{debug_char, ◌++?◌};
 ghost use Rattle.std.specs.Fmt.Cut.{IsTextOrCut};
 ghost use Rattle.std.specs.Fmt.InlineText.{inline_text};
-ghost use Rattle.byte_unit_base.specs.ErrorPosition.{location_words};
-ghost use Rattle.byte_unit_base.specs.Errors.{size_fault};
-ghost use Rattle.byte_unit_base.specs.Expected.{expected_codes, named_in};
-ghost use Rattle.byte_unit_base.specs.FaultText.{parse_text, expected_text, located_text};
+ghost use Rattle.byte_unit_base.specs.Errors.Position.{location_words};
+ghost use Rattle.byte_unit_base.specs.Errors.Meaning.{size_fault};
+ghost use Rattle.byte_unit_base.specs.Errors.Expected.{expected_codes, named_in};
+ghost use Rattle.byte_unit_base.specs.Errors.Text.{parse_text, expected_text, located_text};
 ghost use Rattle.byte_unit_format.specs.Written.{WritesForm};
 ghost use Rattle.byte_unit_math.specs.PutBefore.{IsPutBefore};
 ghost use Rattle.byte_unit_c.specs.Parse.{IsErrorText, quoting};

@@ -2,11 +2,11 @@
 
 ghost use Rattle.std.specs.Prelude.{◌≡◌, ℕ, List, Option, Some, Result, Ok, IfSome, IfNone, MatchOption};
 ghost use Rattle.std.specs.Str.{IsUtf8};
-ghost use Rattle.byte_unit_base.specs.Errors.{value_fault};
-ghost use Rattle.byte_unit_base.specs.Kinds.{flags_for};
-ghost use Rattle.byte_unit_base.specs.Outcome.{IsUnitOrStop};
-ghost use Rattle.byte_unit_base.specs.Readings.{IsNumberReading};
-ghost use Rattle.byte_unit_base.specs.Spelling.{flags_of};
+ghost use Rattle.byte_unit_base.specs.Errors.Meaning.{value_fault};
+ghost use Rattle.byte_unit_base.specs.Sizes.Kinds.{flags_for};
+ghost use Rattle.byte_unit_base.specs.Reading.Ends.{IsUnitOrStop};
+ghost use Rattle.byte_unit_base.specs.Reading.Results.{IsNumberReading};
+ghost use Rattle.byte_unit_base.specs.Grammar.Spelling.{flags_of};
 ghost use Rattle.byte_unit_base.specs.declared.errors.UnitParseError.{UnitParseError};
 ghost use Rattle.byte_unit_base.specs.declared.unit.Unit.{Unit as UnitName};
 ghost use Rattle.byte_unit_c.specs.Flags.{parse_spec_at, prefers_byte};

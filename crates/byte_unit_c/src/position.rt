@@ -2,7 +2,7 @@
 
 ghost use Rattle.std.specs.Prelude.{◌≡◌, false, if◌then◌else◌, Some, None};
 ghost use Rattle.std.specs.Str.{IsUtf8};
-ghost use Rattle.byte_unit_base.specs.ErrorPosition.{IsSizePosition, IsUnitPosition};
+ghost use Rattle.byte_unit_base.specs.Errors.Position.{IsSizePosition, IsUnitPosition};
 
 use byte_unit_base::{Unit, size};
 use std::str;

@@ -2,7 +2,7 @@
 
 ghost use Rattle.std.specs.Prelude.{◌≡◌, ◌<◌, ◌≤◌, ◌⊎◌, slice_get, Some, None, IfSome, IfNone};
 ghost use Rattle.byte_unit_math.specs.Bounds.{size_limit};
-ghost use Rattle.byte_unit_base.specs.Version.{unit_name};
+ghost use Rattle.byte_unit_base.specs.Grammar.Version.{unit_name};
 ghost use Rattle.byte_unit_format.specs.Forms.{IsText, narrow_text, text_limit};
 ghost use Rattle.byte_unit_format.specs.Adjusted.{IsAdjustedForm, IsApproximateForm, most_adjusted_text};
 ghost use Rattle.byte_unit_format.specs.Written.{WritesForm};

@@ -2,13 +2,13 @@
 
 ghost use Rattle.std.specs.Prelude.{◌≡◌, ℕ, ◌*◌, ◌<◌, ◌≤◌, ◌⊎◌, Some, None, false, slice_get, IfSome, if◌then◌else◌};
 ghost use Rattle.byte_unit_math.specs.Bounds.{scale, size_limit};
-ghost use Rattle.byte_unit_base.specs.Shape.{bits};
-ghost use Rattle.byte_unit_base.specs.Version.{current};
-ghost use Rattle.byte_unit_base.specs.Units.{shape_of};
-ghost use Rattle.byte_unit_base.specs.Kinds.{bits_in};
+ghost use Rattle.byte_unit_base.specs.Grammar.Shape.{bits};
+ghost use Rattle.byte_unit_base.specs.Grammar.Version.{current};
+ghost use Rattle.byte_unit_base.specs.Grammar.Units.{shape_of};
+ghost use Rattle.byte_unit_base.specs.Sizes.Kinds.{bits_in};
 ghost use Rattle.byte_unit_choice.specs.Choice.{IsRecoveredIn, IsAppropriateIn};
-ghost use Rattle.byte_unit_base.specs.LeastOfKind.{IsLeastOf};
-ghost use Rattle.byte_unit_base.specs.SizeOrNone.{IsSizeOrNone};
+ghost use Rattle.byte_unit_base.specs.Sizes.Least.{IsLeastOf};
+ghost use Rattle.byte_unit_base.specs.Sizes.OrNone.{IsSizeOrNone};
 ghost use Rattle.byte_unit_c.specs.Codes.{unit_at, types, CodesUnit};
 ghost use Rattle.byte_unit_c.specs.Flags.{kind_at, choice_flags_at};
 ghost use Rattle.byte_unit_c.specs.Values.{number_of, AreDecimalParts};

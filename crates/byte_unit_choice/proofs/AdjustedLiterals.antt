@@ -8,18 +8,17 @@ use Rattle.std.specs.Result.{result_map_both}
 use Rattle.std.proofs.lemmas.Bool.{and_parts, cases_lt, cond-true, cond-false, le-leb, lt-leb}
 use Rattle.std.proofs.lemmas.Bool.Decides.{nat_tests}
 use Rattle.byte_unit_math.specs.Bounds.{unit_limit}
-use Rattle.byte_unit_base.specs.Shape.{Shape, bits}
-use Rattle.byte_unit_base.specs.Units.{shape_of}
-use Rattle.byte_unit_base.specs.UnitLists.{unit_of_shape}
+use Rattle.byte_unit_base.specs.Grammar.Shape.{Shape, bits}
+use Rattle.byte_unit_base.specs.Grammar.Units.{shape_of, unit_of_shape}
 use Rattle.byte_unit_choice.specs.Multiples.{units_of_prefixes, prefix_count}
-use Rattle.byte_unit_base.specs.Errors.{size_fault}
-use Rattle.byte_unit_base.specs.Kinds.{bits_in, own_unit}
+use Rattle.byte_unit_base.specs.Errors.Meaning.{size_fault}
+use Rattle.byte_unit_base.specs.Sizes.Kinds.{bits_in, own_unit}
 use Rattle.byte_unit_choice.specs.Family.{own_family, InFamily}
 use Rattle.byte_unit_choice.specs.Choice.{IsLargest, IsLargestOrOwn, NoneHas, IsEligibleUnit, IsAppropriate}
-use Rattle.byte_unit_base.specs.Version.{current}
+use Rattle.byte_unit_base.specs.Grammar.Version.{current}
 use Rattle.byte_unit_choice.specs.declared.choice.Family.{Family}
 use Rattle.byte_unit_choice.specs.AdjustedSize.{AdjustedSize, IsAdjustedReading, size_answer}
-use Rattle.byte_unit_base.specs.Parsed.{parsed_size}
+use Rattle.byte_unit_base.specs.Reading.Parsed.{parsed_size}
 use Rattle.byte_unit_choice.specs.ParsedAdjusted.{first_not_above, largest_unit_of, in_largest_unit_of, parsed_adjusted}
 use Rattle.byte_unit_base.specs.declared.kind.Kind.{Kind}
 use Rattle.byte_unit_base.specs.declared.errors.ParseError.{ParseError}

@@ -3,12 +3,12 @@ use Rattle.std.proofs.Common.{◌≡◌, ℕ, ◌*◌, ◌≤◌, Bool, arith, i
 use Rattle.std.proofs.Math.Nat.{one-le-pow, one-le-mul}
 use Rattle.byte_unit_math.specs.Bounds.{scale, unit_limit}
 use Rattle.byte_unit_math.specs.Exact.{IsExactAt}
-use Rattle.byte_unit_base.specs.Shape.{Shape, bits, twos, fives}
-use Rattle.byte_unit_base.specs.Version.{current}
+use Rattle.byte_unit_base.specs.Grammar.Shape.{Shape, bits, twos, fives}
+use Rattle.byte_unit_base.specs.Grammar.Version.{current}
 use Rattle.byte_unit_choice.specs.Family.{InFamily}
 use Rattle.byte_unit_choice.specs.Multiples.{units_of_prefixes, prefix_count}
 use Rattle.byte_unit_choice.specs.Choice.{IsRecoveredIn}
-use Rattle.byte_unit_base.specs.Kinds.{bits_in, own_unit}
+use Rattle.byte_unit_base.specs.Sizes.Kinds.{bits_in, own_unit}
 use Rattle.byte_unit_base.specs.declared.kind.Kind.{Kind}
 use Rattle.byte_unit_base.specs.declared.kind.Kind.TheVariants.{Byte, Bit}
 use Rattle.byte_unit_choice.specs.declared.choice.Family.{Family}

@@ -6,8 +6,8 @@ use Rattle.std.proofs.lemmas.List.{drop_at, drop-drop}
 use Rattle.std.proofs.lemmas.Bool.{and_parts, cases_lt, agree_below, agree_below_at}
 use Rattle.std.proofs.lemmas.Bool.Decides.{nat_tests}
 use Rattle.byte_unit_math.specs.Bounds.{unit_limit}
-use Rattle.byte_unit_base.specs.Shape.{Shape, shape, bits}
-use Rattle.byte_unit_base.specs.Version.{current}
+use Rattle.byte_unit_base.specs.Grammar.Shape.{Shape, shape, bits}
+use Rattle.byte_unit_base.specs.Grammar.Version.{current}
 use Rattle.byte_unit_choice.specs.Family.{HasKind, InFamily}
 use Rattle.byte_unit_choice.specs.Multiples.{units_of_prefix, units_of_prefixes, prefix_count}
 use Rattle.byte_unit_choice.specs.declared.choice.Family.{Family}

@@ -3,8 +3,8 @@
 -- That a unit divides a size, as `d`, is a count, `d.0`, and an equation, `d.1`.
 use Rattle.std.proofs.Common.{ℕ, ◌<◌, ◌≤◌, ⊎_elim, arith, mul-le-mul_right}
 use Rattle.byte_unit_math.proofs.Expanding.{IsQuotient-times}
-use Rattle.byte_unit_base.specs.Shape.{Shape, bits}
-use Rattle.byte_unit_base.specs.Version.{Version}
+use Rattle.byte_unit_base.specs.Grammar.Shape.{Shape, bits}
+use Rattle.byte_unit_base.specs.Grammar.Version.{Version}
 use Rattle.byte_unit_choice.specs.Family.{InFamily}
 use Rattle.byte_unit_choice.specs.Choice.{IsLargest, IsExactUnitIn, places_within}
 use Rattle.byte_unit_choice.specs.ChoiceLaws.{Divides, MorePlacesGiveNoSmallerUnit, NumberTimesUnitIsSize}

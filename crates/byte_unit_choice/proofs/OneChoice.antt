@@ -5,10 +5,10 @@ use Rattle.byte_unit_math.specs.Exact.{IsQuotient}
 use Rattle.byte_unit_math.specs.Powers.{IsTwoFive}
 use Rattle.byte_unit_math.proofs.Expanding.{IsQuotient-times}
 use Rattle.byte_unit_math.proofs.Powers.{exact_by_powers}
-use Rattle.byte_unit_base.specs.Shape.{Shape, shape, bits, twos, fives}
+use Rattle.byte_unit_base.specs.Grammar.Shape.{Shape, shape, bits, twos, fives}
 use Rattle.byte_unit_choice.specs.Choice.{IsLargest, IsExactUnitIn, places_within}
 use Rattle.byte_unit_choice.specs.ChoiceLaws.{ChoicesAreOne}
-use Rattle.byte_unit_base.specs.Version.{Version}
+use Rattle.byte_unit_base.specs.Grammar.Version.{Version}
 use Rattle.byte_unit_choice.specs.declared.choice.Family.{Family}
 use Rattle.byte_unit_choice.proofs.Choosing.{some_bits}
 

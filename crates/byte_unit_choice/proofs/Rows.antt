@@ -13,9 +13,9 @@ use Rattle.std.proofs.lemmas.List.Elements.{All-from_recursion, All-map, All-sam
 use Rattle.std.proofs.lemmas.Nat.{leading_top}
 use Rattle.std.specs.Int.{w128, leading_zeros}
 use Rattle.byte_unit_math.specs.Bounds.{unit_limit}
-use Rattle.byte_unit_base.specs.Shape.{Shape, shape, bits, twos, fives}
-use Rattle.byte_unit_base.specs.Version.{current}
-use Rattle.byte_unit_base.specs.Units.{shape_of}
+use Rattle.byte_unit_base.specs.Grammar.Shape.{Shape, shape, bits, twos, fives}
+use Rattle.byte_unit_base.specs.Grammar.Version.{current}
+use Rattle.byte_unit_base.specs.Grammar.Units.{shape_of}
 use Rattle.byte_unit_choice.specs.Family.{HasPrefix, InFamily}
 use Rattle.byte_unit_choice.specs.Choice.{IsLargest, NoneHas}
 use Rattle.byte_unit_choice.specs.Multiples.{ListsUnits, ShapeRow, row_of, row_shape, units_of_prefixes, prefix_count}

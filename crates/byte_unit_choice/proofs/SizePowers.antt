@@ -12,9 +12,9 @@ use Rattle.byte_unit_math.specs.Steps.{saturating_add}
 use Rattle.byte_unit_math.specs.Exact.{IsExactAt, IsLeastPlaces, IsQuotient}
 use Rattle.byte_unit_math.specs.Powers.{IsTwoFive}
 use Rattle.byte_unit_math.proofs.Powers.{exact_by_powers, numbers_have_exponents}
-use Rattle.byte_unit_base.specs.Shape.{Shape, bits, twos, fives}
-use Rattle.byte_unit_base.specs.Version.{current}
-use Rattle.byte_unit_base.specs.Kinds.{bits_in}
+use Rattle.byte_unit_base.specs.Grammar.Shape.{Shape, bits, twos, fives}
+use Rattle.byte_unit_base.specs.Grammar.Version.{current}
+use Rattle.byte_unit_base.specs.Sizes.Kinds.{bits_in}
 use Rattle.byte_unit_choice.specs.Choice.{IsLargest, NoneHas, IsExactUnit, IsChosen, CountsChoice, TakesSteps, places_within}
 use Rattle.byte_unit_choice.specs.ChoiceLaws.{SizesAreExactByPowers}
 use Rattle.byte_unit_choice.proofs.Quotients.{whole_takes_none}

@@ -9,8 +9,8 @@ use Rattle.std.proofs.Math.Nat.{div-add-mod', mul-mod_left}
 use Rattle.std.proofs.lemmas.Bool.{cases_lt}
 use Rattle.byte_unit_math.specs.Bounds.{places_of_decimal}
 use Rattle.byte_unit_math.specs.Exact.{IsExactAt}
-use Rattle.byte_unit_base.specs.Shape.{Shape, bits}
-use Rattle.byte_unit_base.specs.Version.{Version}
+use Rattle.byte_unit_base.specs.Grammar.Shape.{Shape, bits}
+use Rattle.byte_unit_base.specs.Grammar.Version.{Version}
 use Rattle.byte_unit_choice.specs.Family.{HasKind}
 use Rattle.byte_unit_choice.specs.Multiples.{units_of_prefixes}
 use Rattle.byte_unit_choice.specs.Choice.{IsExactUnitIn, places_within}

@@ -1,7 +1,7 @@
 -- Adjusted sizes, which have the unit that they are shown in, and how they are parsed.
 use Rattle.std.specs.Prelude.{ℕ, false, List, Result, Ok, Err, IfOk}
 use Rattle.byte_unit_choice.specs.Choice.{IsAppropriate}
-use Rattle.byte_unit_base.specs.SizeReading.{IsSizeReading}
+use Rattle.byte_unit_base.specs.Reading.Results.{IsSizeReading}
 use Rattle.byte_unit_base.specs.declared.errors.ParseError.{ParseError}
 use Rattle.byte_unit_base.specs.declared.kind.Kind.{Kind}
 use Rattle.byte_unit_choice.specs.declared.unit_type.UnitType.TheVariants.{Both}

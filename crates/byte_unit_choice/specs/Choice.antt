@@ -4,16 +4,16 @@ use Rattle.byte_unit_math.specs.Bounds.{scale, places_of_decimal}
 use Rattle.byte_unit_math.specs.Steps.{saturating_add}
 use Rattle.byte_unit_math.specs.Exact.{IsExactAt, IsLeastPlaces, IsQuotient}
 use Rattle.byte_unit_math.specs.Powers.{IsTwoFive}
-use Rattle.byte_unit_base.specs.Shape.{Shape, bits}
-use Rattle.byte_unit_base.specs.Version.{Version, current}
-use Rattle.byte_unit_base.specs.Kinds.{bits_in, own_unit}
+use Rattle.byte_unit_base.specs.Grammar.Shape.{Shape, bits}
+use Rattle.byte_unit_base.specs.Grammar.Version.{Version, current}
+use Rattle.byte_unit_base.specs.Sizes.Kinds.{bits_in, own_unit}
 use Rattle.byte_unit_choice.specs.Family.{own_family, InFamily, IsOfType}
 use Rattle.byte_unit_base.specs.declared.kind.Kind.{Kind}
 use Rattle.byte_unit_base.specs.declared.kind.Kind.TheVariants.{Byte, Bit}
 use Rattle.byte_unit_choice.specs.declared.choice.Family.{Family}
 use Rattle.byte_unit_choice.specs.declared.choice.Family.TheVariants.{All}
 use Rattle.byte_unit_choice.specs.declared.unit_type.UnitType.{UnitType}
-use Rattle.byte_unit_base.specs.Units.{shape_of}
+use Rattle.byte_unit_base.specs.Grammar.Units.{shape_of}
 use Rattle.byte_unit_base.specs.declared.unit.Unit.{Unit as UnitName}
 
 -- the unit has the property, and no larger unit has it

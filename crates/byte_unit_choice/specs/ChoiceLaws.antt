@@ -3,11 +3,11 @@ use Rattle.std.specs.Prelude.{◌≡◌, ◌≢◌, ◌↔◌, ℕ, ◌+◌, ◌
 use Rattle.byte_unit_math.specs.Bounds.{scale}
 use Rattle.byte_unit_math.specs.Exact.{IsExactAt}
 use Rattle.byte_unit_math.specs.Powers.{IsTwoFive}
-use Rattle.byte_unit_base.specs.Shape.{Shape, bits, twos, fives}
-use Rattle.byte_unit_base.specs.Version.{Version}
+use Rattle.byte_unit_base.specs.Grammar.Shape.{Shape, bits, twos, fives}
+use Rattle.byte_unit_base.specs.Grammar.Version.{Version}
 use Rattle.byte_unit_choice.specs.Family.{InFamily}
 use Rattle.byte_unit_choice.specs.Choice.{IsChosenIn, NoneHas, IsExactUnitIn}
-use Rattle.byte_unit_base.specs.Kinds.{bits_in}
+use Rattle.byte_unit_base.specs.Sizes.Kinds.{bits_in}
 use Rattle.byte_unit_base.specs.declared.kind.Kind.{Kind}
 use Rattle.byte_unit_choice.specs.declared.choice.Family.{Family}
 

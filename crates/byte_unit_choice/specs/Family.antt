@@ -1,7 +1,7 @@
 -- Unit sets (of bytes, of bits, or of both) and types of units (binary, decimal, or both).
 use Rattle.std.specs.Prelude.{◌≡◌, ◌≤◌, Bool, true, false, length, ⊤}
-use Rattle.byte_unit_base.specs.Shape.{Shape}
-use Rattle.byte_unit_base.specs.Version.{Version}
+use Rattle.byte_unit_base.specs.Grammar.Shape.{Shape}
+use Rattle.byte_unit_base.specs.Grammar.Version.{Version}
 use Rattle.byte_unit_base.specs.declared.kind.Kind.{Kind}
 use Rattle.byte_unit_base.specs.declared.kind.Kind.TheVariants.{Byte, Bit}
 use Rattle.byte_unit_choice.specs.declared.choice.Family.{Family}

@@ -1,8 +1,8 @@
 -- Private: the lists of units that the search for a unit goes through. No public contract cites this file.
 use Rattle.std.specs.Prelude.{◌≡◌, ℕ, zero, suc, ◌≤◌, true, false, List, [], ◌∷◌, ◌++◌, length, map}
-use Rattle.byte_unit_base.specs.Shape.{Shape, shape, bits, twos, fives}
-use Rattle.byte_unit_base.specs.Units.{shape_of}
-use Rattle.byte_unit_base.specs.Version.{current}
+use Rattle.byte_unit_base.specs.Grammar.Shape.{Shape, shape, bits, twos, fives}
+use Rattle.byte_unit_base.specs.Grammar.Units.{shape_of}
+use Rattle.byte_unit_base.specs.Grammar.Version.{current}
 use Rattle.byte_unit_choice.specs.Family.{HasPrefix}
 use Rattle.byte_unit_choice.specs.declared.tables.UnitRow.{UnitRow}
 use Rattle.byte_unit_choice.specs.declared.choice.Family.{Family}

@@ -1,13 +1,13 @@
 -- Private: what the parser of an adjusted size returns, as a function that a proof can compute for a literal.
 use Rattle.std.specs.Prelude.{ℕ, ◌*◌, false, List, [], ◌∷◌, Result, if◌then◌else◌, nat_le}
 use Rattle.std.specs.Result.{result_map_both}
-use Rattle.byte_unit_base.specs.Shape.{Shape, bits}
-use Rattle.byte_unit_base.specs.UnitLists.{unit_of_shape}
-use Rattle.byte_unit_base.specs.Fault.{Fault}
-use Rattle.byte_unit_base.specs.Kinds.{bits_in, own_unit}
+use Rattle.byte_unit_base.specs.Grammar.Shape.{Shape, bits}
+use Rattle.byte_unit_base.specs.Grammar.Units.{unit_of_shape}
+use Rattle.byte_unit_base.specs.Errors.Fault.{Fault}
+use Rattle.byte_unit_base.specs.Sizes.Kinds.{bits_in, own_unit}
 use Rattle.byte_unit_choice.specs.Family.{own_family}
 use Rattle.byte_unit_choice.specs.Multiples.{units_of_prefixes, prefix_count}
-use Rattle.byte_unit_base.specs.Parsed.{parsed_size}
+use Rattle.byte_unit_base.specs.Reading.Parsed.{parsed_size}
 use Rattle.byte_unit_choice.specs.AdjustedSize.{AdjustedSize}
 use Rattle.byte_unit_base.specs.declared.kind.Kind.{Kind}
 

@@ -4,9 +4,9 @@
 ghost use Rattle.std.specs.Prelude.{◌≡◌, ◌+◌, ◌*◌, ◌<◌, ◌≤◌, ◌⊎◌, IfSome, IfNone};
 ghost use Rattle.byte_unit_math.specs.Bounds.{scale, size_limit};
 ghost use Rattle.byte_unit_math.specs.Steps.{saturating_add};
-ghost use Rattle.byte_unit_base.specs.Shape.{bits};
-ghost use Rattle.byte_unit_base.specs.Kinds.{bits_in};
-ghost use Rattle.byte_unit_base.specs.Units.{shape_of};
+ghost use Rattle.byte_unit_base.specs.Grammar.Shape.{bits};
+ghost use Rattle.byte_unit_base.specs.Sizes.Kinds.{bits_in};
+ghost use Rattle.byte_unit_base.specs.Grammar.Units.{shape_of};
 ghost use Rattle.byte_unit_choice.specs.Choice.{IsLargest, NoneHas, IsExactUnit, IsChosen, IsEligibleUnit};
 ghost use Rattle.byte_unit_choice.specs.Choice.{CountsChoice, most_steps, IsRecovered, IsAppropriate};
 ghost use Rattle.byte_unit_choice.specs.Multiples.{ListsUnits};

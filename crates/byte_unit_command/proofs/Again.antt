@@ -1,17 +1,17 @@
 -- Lemmas: what is formatted can be read again.
 use Rattle.std.proofs.Common.{◌≡◌, ◌≢◌, ℕ, ◌<◌, Bool, true, false, true≢false, nat_lt, if◌then◌else◌, List, ◌++◌}
 use Rattle.std.proofs.Common.{Option, refl, sym, ap, subst, ◌∙◌}
-use Rattle.byte_unit.specs.Accepted.{IsAcceptedAs}
+use Rattle.byte_unit.specs.Sizes.Accepted.{IsAcceptedAs}
 use Rattle.byte_unit.specs.BinaryString.{has_binary_prefix}
 use Rattle.byte_unit.specs.Bounds.{size_limit}
 use Rattle.byte_unit.specs.Choice.{IsRecoveredIn}
 use Rattle.byte_unit.specs.FormLaws.{SizeFormReadsBack, PlainFormReadsBack, SizeHasOneForm}
 use Rattle.byte_unit.specs.Forms.{IsText, places_of}
 use Rattle.byte_unit.specs.NamedSpecs.{plain_spec}
-use Rattle.byte_unit.specs.ParseSpec.{parse_spec}
-use Rattle.byte_unit.specs.Shape.{Shape, shape}
-use Rattle.byte_unit.specs.Units.{shape_of}
-use Rattle.byte_unit.specs.Version.{current}
+use Rattle.byte_unit.specs.Reading.ParseSpec.{parse_spec}
+use Rattle.byte_unit.specs.Grammar.Shape.{Shape, shape}
+use Rattle.byte_unit.specs.Grammar.Units.{shape_of}
+use Rattle.byte_unit.specs.Grammar.Version.{current}
 use Rattle.byte_unit.specs.declared.Kind.{Kind}
 use Rattle.byte_unit.specs.declared.Sign.TheVariants.{Unset, Plus}
 use Rattle.byte_unit_base.proofs.SizeOrFault.{accepted_or_refused}

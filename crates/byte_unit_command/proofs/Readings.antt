@@ -1,7 +1,7 @@
 -- Lemmas: what the parser has returned for a field.
 use Rattle.std.proofs.Common.{◌≡◌, List, ℕ, Bool, Option, Some, Result, Err, ap, inr, subst, sym, ◌∙◌, IsUtf8}
-use Rattle.byte_unit.specs.ParseSpec.{parse_spec}
-use Rattle.byte_unit.specs.SizeReading.{IsBytesReadingAs, IsReadingAs}
+use Rattle.byte_unit.specs.Reading.ParseSpec.{parse_spec}
+use Rattle.byte_unit.specs.Reading.Results.{IsBytesReadingAs, IsReadingAs}
 use Rattle.byte_unit.specs.declared.Kind.{Kind}
 use Rattle.byte_unit.specs.declared.ParseError.{ParseError}
 use Rattle.byte_unit.specs.declared.ParseSpec.{ParseSpec}

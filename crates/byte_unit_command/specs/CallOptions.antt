@@ -2,7 +2,7 @@
 use Rattle.std.specs.Prelude.{◌≡◌, ℕ, ◌≤◌, ⊤, ◌⊎◌, Bool, true, false, if◌then◌else◌, List, [], Option, None, Some}
 use Rattle.std.specs.Prelude.{MatchOption, option_map, unwrap_or, is_some, codes}
 use Rattle.std.specs.Borrow.{Bor}
-use Rattle.byte_unit.specs.ParseSpec.{parse_spec}
+use Rattle.byte_unit.specs.Reading.ParseSpec.{parse_spec}
 use Rattle.byte_unit.specs.declared.UnitType.TheVariants.{Binary}
 use Rattle.byte_unit_command.specs.Meaning.{IsFrom, IsOutputForm, MeansNothing}
 use Rattle.byte_unit_command.specs.Meaning.{IsForm, IsNoForm, IsDelimiter, IsPadding}

@@ -3,11 +3,11 @@ use Rattle.std.specs.Prelude.{◌≡◌, ℕ, ◌-◌, ◌⊎◌, Bool, nat_eq, 
 use Rattle.std.specs.Prelude.{take, Option}
 use Rattle.std.specs.List.{ends_with}
 use Rattle.std.specs.Str.{IsUtf8, is_utf8, trim_end}
-use Rattle.byte_unit.specs.Accepted.{IsAcceptedAs, IsRejectedAs}
-use Rattle.byte_unit.specs.ErrorPosition.{IsLocationOf, IsSizeLocation}
-use Rattle.byte_unit.specs.Errors.{size_fault}
-use Rattle.byte_unit.specs.Fault.{Fault}
-use Rattle.byte_unit.specs.Version.{current}
+use Rattle.byte_unit.specs.Sizes.Accepted.{IsAcceptedAs, IsRejectedAs}
+use Rattle.byte_unit.specs.Errors.Position.{IsLocationOf, IsSizeLocation}
+use Rattle.byte_unit.specs.Errors.Meaning.{size_fault}
+use Rattle.byte_unit.specs.Errors.Fault.{Fault}
+use Rattle.byte_unit.specs.Grammar.Version.{current}
 use Rattle.byte_unit.specs.declared.ParseSpec.{ParseSpec}
 use Rattle.byte_unit_base.specs.declared.errors.LocatedError.{LocatedError}
 use Rattle.byte_unit_command.specs.Fields.{gap_of, columns_in}

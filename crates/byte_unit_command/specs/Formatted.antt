@@ -5,10 +5,10 @@ use Rattle.byte_unit.specs.Adjusted.{IsAdjustedForm, IsNumeralBy, rule_of}
 use Rattle.byte_unit.specs.BinaryString.{binary_spec}
 use Rattle.byte_unit.specs.Choice.{IsAppropriate, IsRecovered}
 use Rattle.byte_unit.specs.Forms.{IsText, places_of}
-use Rattle.byte_unit.specs.Kinds.{bits_in}
+use Rattle.byte_unit.specs.Sizes.Kinds.{bits_in}
 use Rattle.byte_unit.specs.NamedSpecs.{plain_spec, alternate_spec}
-use Rattle.byte_unit.specs.Shape.{bits}
-use Rattle.byte_unit.specs.Units.{shape_of}
+use Rattle.byte_unit.specs.Grammar.Shape.{bits}
+use Rattle.byte_unit.specs.Grammar.Units.{shape_of}
 use Rattle.byte_unit.specs.declared.FormatSpec.{FormatSpec}
 use Rattle.byte_unit.specs.declared.Kind.{Kind}
 use Rattle.byte_unit.specs.declared.Unit.{Unit as UnitName}

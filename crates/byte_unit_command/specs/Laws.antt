@@ -1,8 +1,8 @@
 -- Laws of the texts of sizes: what is formatted can be read again; and of totals.
 use Rattle.std.specs.Prelude.{◌≡◌, ℕ, ◌+◌, ◌*◌, ◌<◌, ⊤, true, min, List, ◌++◌, replicate, Some}
-use Rattle.byte_unit.specs.Accepted.{IsAcceptedAs}
+use Rattle.byte_unit.specs.Sizes.Accepted.{IsAcceptedAs}
 use Rattle.byte_unit.specs.Bounds.{size_limit}
-use Rattle.byte_unit.specs.Version.{current}
+use Rattle.byte_unit.specs.Grammar.Version.{current}
 use Rattle.byte_unit_command.specs.Field.{Found, without_suffix}
 use Rattle.byte_unit_command.specs.Formatted.{IsFormatted}
 use Rattle.byte_unit_command.specs.Sums.{tally_of}

@@ -2,14 +2,14 @@
 -- given.
 use Rattle.std.specs.Prelude.{◌≡◌, ◌≢◌, ℕ, ◌<◌, ◌^◌, ◌⊎◌, Bool, true, false, List, [], ◌∷◌, Option, None, Some, codes}
 use Rattle.std.specs.Str.{trim}
-use Rattle.byte_unit.specs.Accepted.{IsAcceptedAs}
-use Rattle.byte_unit.specs.Errors.{unit_fault}
-use Rattle.byte_unit.specs.Fault.{IsUnitFault}
-use Rattle.byte_unit.specs.Kinds.{flags_for}
-use Rattle.byte_unit.specs.SizeText.{trim_of}
-use Rattle.byte_unit.specs.Spelling.{Spells}
-use Rattle.byte_unit.specs.Units.{shape_of}
-use Rattle.byte_unit.specs.Version.{current}
+use Rattle.byte_unit.specs.Sizes.Accepted.{IsAcceptedAs}
+use Rattle.byte_unit.specs.Errors.Meaning.{unit_fault}
+use Rattle.byte_unit.specs.Errors.Fault.{IsUnitFault}
+use Rattle.byte_unit.specs.Sizes.Kinds.{flags_for}
+use Rattle.byte_unit.specs.Grammar.SizeText.{trim_of}
+use Rattle.byte_unit.specs.Grammar.Spelling.{Spells}
+use Rattle.byte_unit.specs.Grammar.Units.{shape_of}
+use Rattle.byte_unit.specs.Grammar.Version.{current}
 use Rattle.byte_unit.specs.declared.Kind.{Kind}
 use Rattle.byte_unit.specs.declared.ParseSpec.{ParseSpec}
 use Rattle.byte_unit.specs.declared.Unit.{Unit as UnitName}

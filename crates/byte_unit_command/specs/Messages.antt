@@ -3,9 +3,9 @@ use Rattle.std.specs.Prelude.{◌≡◌, ℕ, Bool, true, false, IfSome, MatchBo
 use Rattle.std.specs.Prelude.{codes}
 use Rattle.std.specs.Fmt.{decimal}
 use Rattle.std.specs.Str.{IsUtf8}
-use Rattle.byte_unit.specs.ErrorPosition.{location_words}
-use Rattle.byte_unit.specs.FaultText.{parse_text}
-use Rattle.byte_unit_base.specs.Quoted.{quote}
+use Rattle.byte_unit.specs.Errors.Position.{location_words}
+use Rattle.byte_unit.specs.Errors.Text.{parse_text}
+use Rattle.byte_unit_base.specs.Errors.Quoted.{quote}
 use Rattle.byte_unit_base.specs.declared.errors.LocatedError.{LocatedError}
 use Rattle.byte_unit_command.specs.Field.{IsSizeError, without_suffix}
 use Rattle.byte_unit_command.specs.State.{Context}

@@ -1,7 +1,7 @@
 -- The message about a wrong option.
 use Rattle.std.specs.Prelude.{◌≡◌, ℕ, List, [], ◌++◌, Option, None, Some, IfSome, codes}
 use Rattle.std.specs.Borrow.{Bor}
-use Rattle.byte_unit.specs.FaultText.{unit_text}
+use Rattle.byte_unit.specs.Errors.Text.{unit_text}
 use Rattle.byte_unit_command.specs.Messages.{AreErrorWords, quoted_text}
 use Rattle.byte_unit_command.specs.declared.wrong.ValueError.{ValueError}
 use Rattle.byte_unit_command.specs.declared.wrong.ValueError.TheVariants.{Unit as UnitFault, Blank, NoUnit, Precision}

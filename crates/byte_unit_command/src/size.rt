@@ -2,7 +2,7 @@
 
 ghost use Rattle.std.specs.Prelude.{◌≡◌, ◌<◌, ◌≤◌, false, IfSome, IfNone, IfOk};
 ghost use Rattle.byte_unit.specs.Bounds.{size_limit};
-ghost use Rattle.byte_unit.specs.SizeReading.{IsBytesReadingAs};
+ghost use Rattle.byte_unit.specs.Reading.Results.{IsBytesReadingAs};
 ghost use Rattle.byte_unit_command.specs.Field.{IsSize, IsNoSize, IsSizeBy, IsNoSizeBy};
 ghost use Rattle.byte_unit_command.specs.Field.{before_space, without_suffix};
 

@@ -3,7 +3,7 @@
 ghost use Rattle.std.specs.Prelude.{◌≡◌, ◌<◌, ◌≤◌, ◌++◌, ℕ, List, length, replicate, OnOk, true, false};
 ghost use Rattle.byte_unit.specs.Bounds.{size_limit};
 ghost use Rattle.byte_unit.specs.Forms.{text_limit};
-ghost use Rattle.byte_unit.specs.Units.{shape_of};
+ghost use Rattle.byte_unit.specs.Grammar.Units.{shape_of};
 ghost use Rattle.byte_unit_stream.specs.Beginnings.{IsBeginningOf};
 ghost use Rattle.byte_unit_command.specs.Formatted.{BeginsWithForm, IsFormText, IsFormatted};
 ghost use Rattle.byte_unit_command.specs.Formatted.{exact_spec as spec_of_exact, padded};

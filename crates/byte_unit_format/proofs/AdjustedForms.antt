@@ -23,17 +23,17 @@ use Rattle.byte_unit_math.proofs.Nearest.{lies_above_quotient, nearest_down, nea
 use Rattle.byte_unit_math.proofs.Nearest.{nearest_even_this}
 use Rattle.byte_unit_math.proofs.Texts.{same_finite, expansion_unique, nearest_unique, short_numeral_is_expansion}
 use Rattle.byte_unit_math.proofs.Texts.{expansion_of_same_fraction}
-use Rattle.byte_unit_base.specs.Shape.{Shape, bits, twos, fives}
-use Rattle.byte_unit_base.specs.Version.{Version, unit_name, unit_name_in}
+use Rattle.byte_unit_base.specs.Grammar.Shape.{Shape, bits, twos, fives}
+use Rattle.byte_unit_base.specs.Grammar.Version.{Version, unit_name, unit_name_in}
 use Rattle.byte_unit_choice.proofs.Choosing.{some_bits}
 use Rattle.byte_unit_base.specs.declared.kind.Kind.{Kind}
 use Rattle.byte_unit_format.specs.declared.spec.FormatSpec.{FormatSpec}
-use Rattle.byte_unit_base.specs.Kinds.{bits_in}
+use Rattle.byte_unit_base.specs.Sizes.Kinds.{bits_in}
 use Rattle.byte_unit_format.specs.Layout.{layout, layout_of}
 use Rattle.byte_unit_format.specs.Adjusted.{Rule, full, round_to, short_to, IsNumeralBy, rule_of, IsAdjustedFormIn, IsAdjustedForm}
 use Rattle.byte_unit_format.specs.Rounding.{rule_from, IsRoundingOf}
 use Rattle.byte_unit_format.specs.declared.adjusted.Rounding.{Rounding}
-use Rattle.byte_unit_base.specs.Units.{shape_of}
+use Rattle.byte_unit_base.specs.Grammar.Units.{shape_of}
 use Rattle.byte_unit_base.specs.declared.unit.Unit.{Unit as UnitName}
 use Rattle.byte_unit_format.specs.FormLaws.{SizeHasOneAdjustedForm}
 

@@ -21,9 +21,9 @@ use Rattle.byte_unit_math.specs.declared.expansion.Ties.{Ties}
 use Rattle.byte_unit_math.specs.declared.expansion.Ties.TheVariants.{Even, Up}
 use Rattle.byte_unit_math.proofs.Digits.{one_le_pow10, length_last_digits}
 use Rattle.byte_unit_math.proofs.Texts.{short_numeral_is_expansion}
-use Rattle.byte_unit_base.specs.Shape.{bits}
-use Rattle.byte_unit_base.specs.Units.{shape_of}
-use Rattle.byte_unit_base.specs.Kinds.{bits_in}
+use Rattle.byte_unit_base.specs.Grammar.Shape.{bits}
+use Rattle.byte_unit_base.specs.Grammar.Units.{shape_of}
+use Rattle.byte_unit_base.specs.Sizes.Kinds.{bits_in}
 use Rattle.byte_unit_choice.proofs.Choosing.{some_bits}
 use Rattle.byte_unit_base.specs.declared.kind.Kind.{Kind}
 use Rattle.byte_unit_base.specs.declared.unit.Unit.{Unit as UnitName}

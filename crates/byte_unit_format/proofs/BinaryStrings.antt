@@ -3,9 +3,9 @@
 -- A `string` is the exact unit of the size, that it is this, and that the text is by it.
 use Rattle.std.proofs.Common.{◌≡◌, ◌<◌, ℕ, nat_lt, List, Bool, true, false, if◌then◌else◌, refl, sym, ◌∙◌, ap}
 use Rattle.std.proofs.Common.{arith}
-use Rattle.byte_unit_base.specs.Shape.{Shape, shape}
-use Rattle.byte_unit_base.specs.Version.{current}
-use Rattle.byte_unit_base.specs.ParseSpec.{parse_spec, binary_of}
+use Rattle.byte_unit_base.specs.Grammar.Shape.{Shape, shape}
+use Rattle.byte_unit_base.specs.Grammar.Version.{current}
+use Rattle.byte_unit_base.specs.Reading.ParseSpec.{parse_spec, binary_of}
 use Rattle.byte_unit_choice.specs.Choice.{IsRecoveredIn}
 use Rattle.byte_unit_base.specs.declared.kind.Kind.{Kind}
 use Rattle.byte_unit_format.specs.Forms.{IsText, default_precision}

@@ -11,10 +11,10 @@ use Rattle.std.proofs.lemmas.Bool.{cases_lt}
 use Rattle.std.proofs.lemmas.Nat.{pow-add, div-add-mod', leading_top}
 use Rattle.byte_unit_math.specs.Bounds.{size_limit, scale}
 use Rattle.byte_unit_math.proofs.TwosFives.{FivesOff-trailing_zeros}
-use Rattle.byte_unit_base.specs.Shape.{Shape, shape, bits}
-use Rattle.byte_unit_base.specs.Version.{current}
+use Rattle.byte_unit_base.specs.Grammar.Shape.{Shape, shape, bits}
+use Rattle.byte_unit_base.specs.Grammar.Version.{current}
 use Rattle.byte_unit_choice.specs.Choice.{IsRecoveredIn, IsExactUnit}
-use Rattle.byte_unit_base.specs.Kinds.{bits_in, counts_bits, own_unit}
+use Rattle.byte_unit_base.specs.Sizes.Kinds.{bits_in, counts_bits, own_unit}
 use Rattle.byte_unit_choice.specs.Family.{own_family}
 use Rattle.byte_unit_base.specs.declared.kind.Kind.{Kind}
 use Rattle.byte_unit_format.specs.FewPlaces.{FitsPrefix, IsGreatestPower}

@@ -8,13 +8,13 @@ use Rattle.std.proofs.Math.Nat.{le_of_mul-le-mul_right}
 use Rattle.std.proofs.lemmas.Bool.Decides.{nat_tests}
 use Rattle.byte_unit_math.specs.Bounds.{places_of_decimal}
 use Rattle.byte_unit_math.specs.Numeral.{short_numeral}
-use Rattle.byte_unit_base.specs.Shape.{Shape, shape, bits}
-use Rattle.byte_unit_base.specs.Version.{first_version, current, unit_name_in}
-use Rattle.byte_unit_base.specs.Spelling.{Spells, SpellsPrefix}
+use Rattle.byte_unit_base.specs.Grammar.Shape.{Shape, shape, bits}
+use Rattle.byte_unit_base.specs.Grammar.Version.{first_version, current, unit_name_in}
+use Rattle.byte_unit_base.specs.Grammar.Spelling.{Spells, SpellsPrefix}
 use Rattle.byte_unit_base.specs.declared.spec.Flags.{Flags}
-use Rattle.byte_unit_base.specs.Number.{IsNumberText}
+use Rattle.byte_unit_base.specs.Grammar.Number.{IsNumberText}
 use Rattle.byte_unit_choice.specs.Family.{InFamily, own_family}
-use Rattle.byte_unit_base.specs.Kinds.{bits_in, flags_for}
+use Rattle.byte_unit_base.specs.Sizes.Kinds.{bits_in, flags_for}
 use Rattle.byte_unit_choice.specs.Choice.{IsLargestOrOwn, IsRecoveredIn}
 use Rattle.byte_unit_format.specs.Layout.{layout}
 use Rattle.byte_unit_format.specs.Forms.{places_of}

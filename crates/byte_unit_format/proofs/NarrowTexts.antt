@@ -13,11 +13,11 @@ use Rattle.byte_unit_math.specs.Digits.{at_places, trim_expansion}
 use Rattle.byte_unit_math.specs.Numeral.{fraction_text, short_numeral}
 use Rattle.byte_unit_math.proofs.Scales.{pow10_split}
 use Rattle.byte_unit_math.proofs.Texts.{short_numeral_is_expansion}
-use Rattle.byte_unit_base.specs.Shape.{Shape, shape, bits}
-use Rattle.byte_unit_base.specs.Version.{current, unit_name_in}
+use Rattle.byte_unit_base.specs.Grammar.Shape.{Shape, shape, bits}
+use Rattle.byte_unit_base.specs.Grammar.Version.{current, unit_name_in}
 use Rattle.byte_unit_choice.specs.Family.{HasKind, own_family}
 use Rattle.byte_unit_choice.specs.Choice.{IsLargest, IsRecoveredIn, IsExactUnit, places_within}
-use Rattle.byte_unit_base.specs.Kinds.{bits_in, counts_bits}
+use Rattle.byte_unit_base.specs.Sizes.Kinds.{bits_in, counts_bits}
 use Rattle.byte_unit_base.specs.declared.kind.Kind.{Kind}
 use Rattle.byte_unit_base.specs.declared.kind.Kind.TheVariants.{Byte, Bit}
 use Rattle.byte_unit_choice.proofs.Choosing.{some_bits, own_bits}

@@ -5,16 +5,16 @@ use Rattle.std.proofs.Common.{◌≡◌, ℕ, ◌<◌, List, [], ◌++◌, refl,
 use Rattle.std.proofs.Common.{◌≤◌, ⊎_elim, inl, inr, length, rules, sym, ap, ◌∙◌, Bool, false, append-nil, append_assoc}
 use Rattle.std.proofs.Common.{◌^◌, subst}
 use Rattle.std.proofs.lemmas.Str.{IsAscii-append}
-use Rattle.byte_unit_base.specs.SizeText.{trim_of, IsSizeText}
+use Rattle.byte_unit_base.specs.Grammar.SizeText.{trim_of, IsSizeText}
 use Rattle.byte_unit_base.proofs.SizeAscii.{visible_ascii, gap_left, spaces_dropped, trim_front}
 use Rattle.byte_unit_format.specs.Plain.{spaces, plus_of, plain, plain_padding, plain_left_padding}
 use Rattle.std.specs.Fmt.{decimal}
 use Rattle.std.proofs.lemmas.Nat.{mul-le}
 use Rattle.std.proofs.lemmas.List.{replicate-append-replicate, length-append}
 use Rattle.byte_unit_math.specs.Bounds.{scale, places_of_decimal, whole_limit, bits_limit}
-use Rattle.byte_unit_base.specs.Shape.{Shape, bits}
-use Rattle.byte_unit_base.specs.Version.{current, unit_name_in}
-use Rattle.byte_unit_base.specs.Spelling.{Spells}
+use Rattle.byte_unit_base.specs.Grammar.Shape.{Shape, bits}
+use Rattle.byte_unit_base.specs.Grammar.Version.{current, unit_name_in}
+use Rattle.byte_unit_base.specs.Grammar.Spelling.{Spells}
 use Rattle.byte_unit_math.specs.Finite.{Finite, IsExpansion, ulps_of}
 use Rattle.byte_unit_math.specs.Digits.{at_places, trim_expansion}
 use Rattle.byte_unit_math.specs.Numeral.{fraction_text, text_of}
@@ -30,9 +30,9 @@ use Rattle.byte_unit_choice.specs.Family.{HasKind, own_family}
 use Rattle.byte_unit_choice.specs.Choice.{IsRecoveredIn}
 use Rattle.byte_unit_choice.proofs.Choosing.{some_bits, own_number}
 use Rattle.byte_unit_base.proofs.Names.{IsKnown, SaysKind, name_spells, name_visible, name_some, unit_known}
-use Rattle.byte_unit_base.specs.Kinds.{bits_in, own_unit, flags_for}
-use Rattle.byte_unit_base.specs.Accepted.{IsAccepted, IsAcceptedAs, IsRejected}
-use Rattle.byte_unit_base.specs.ParseSpec.{parse_spec, unit_meant}
+use Rattle.byte_unit_base.specs.Sizes.Kinds.{bits_in, own_unit, flags_for}
+use Rattle.byte_unit_base.specs.Sizes.Accepted.{IsAccepted, IsAcceptedAs, IsRejected}
+use Rattle.byte_unit_base.specs.Reading.ParseSpec.{parse_spec, unit_meant}
 use Rattle.byte_unit_base.specs.declared.spec.ParseSpec.{ParseSpec}
 use Rattle.byte_unit_format.specs.Layout.{layout, layout_padding, layout_left_padding, gap_of}
 use Rattle.byte_unit_format.specs.Forms.{places_of, IsSizeForm}
@@ -43,8 +43,8 @@ use Rattle.byte_unit_format.proofs.NarrowTexts.{own_kind}
 use Rattle.byte_unit_format.proofs.AdjustedLengths.{whole_at_most}
 use Rattle.byte_unit_format.proofs.TextParts.{run_ascii}
 use Rattle.byte_unit_math.specs.Exact.{IsExactAt}
-use Rattle.byte_unit_base.specs.Units.{shape_of}
-use Rattle.byte_unit_base.specs.Fault.{too_long, IsSizeFault}
+use Rattle.byte_unit_base.specs.Grammar.Units.{shape_of}
+use Rattle.byte_unit_base.specs.Errors.Fault.{too_long, IsSizeFault}
 use Rattle.byte_unit_format.specs.Adjusted.{IsAdjustedForm}
 use Rattle.byte_unit_format.specs.AdjustedString.{IsAdjustedString}
 use Rattle.byte_unit_format.specs.declared.spec.TheConstants.FormatSpec.{ALTERNATE}

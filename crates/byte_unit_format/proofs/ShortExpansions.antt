@@ -1,9 +1,9 @@
 -- A size in a unit takes at most 93 digits after the point, and a size in bytes at most 90.
 use Rattle.std.proofs.Common.{◌≡◌, ◌*◌, ◌/◌, ◌^◌, ℕ, arith, ap, refl}
 use Rattle.byte_unit_math.specs.Exact.{IsExactAt}
-use Rattle.byte_unit_base.specs.Shape.{bits}
-use Rattle.byte_unit_base.specs.Units.{shape_of}
-use Rattle.byte_unit_base.specs.Kinds.{bits_in}
+use Rattle.byte_unit_base.specs.Grammar.Shape.{bits}
+use Rattle.byte_unit_base.specs.Grammar.Units.{shape_of}
+use Rattle.byte_unit_base.specs.Sizes.Kinds.{bits_in}
 use Rattle.byte_unit_format.specs.FormLaws.{ExpansionsEnd}
 use Rattle.byte_unit_base.specs.declared.kind.Kind.TheVariants.{Byte, Bit as OfBits}
 use Rattle.byte_unit_base.specs.declared.unit.Unit.{Unit as UnitName}

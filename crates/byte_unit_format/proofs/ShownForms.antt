@@ -9,12 +9,12 @@ use Rattle.byte_unit_math.specs.Digits.{expansion_of}
 use Rattle.byte_unit_math.specs.Numeral.{text_of}
 use Rattle.byte_unit_math.proofs.Expanding.{powers_are_exact}
 use Rattle.byte_unit_math.proofs.Texts.{expansion_is_by_division, expansion_of_is_expansion}
-use Rattle.byte_unit_base.specs.Shape.{bits, twos, fives}
-use Rattle.byte_unit_base.specs.Version.{unit_name, unit_name_in}
+use Rattle.byte_unit_base.specs.Grammar.Shape.{bits, twos, fives}
+use Rattle.byte_unit_base.specs.Grammar.Version.{unit_name, unit_name_in}
 use Rattle.byte_unit_base.specs.declared.kind.Kind.{Kind}
 use Rattle.byte_unit_format.specs.Adjusted.{adjusted_text}
-use Rattle.byte_unit_base.specs.Units.{shape_of}
-use Rattle.byte_unit_base.specs.Kinds.{bits_in}
+use Rattle.byte_unit_base.specs.Grammar.Units.{shape_of}
+use Rattle.byte_unit_base.specs.Sizes.Kinds.{bits_in}
 use Rattle.byte_unit_format.specs.FormLaws.{ShownSizeIsPlainForm, ShownAdjustedSizeIsPlainForm}
 use Rattle.byte_unit_base.specs.declared.unit.Unit.{Unit as UnitName}
 use Rattle.byte_unit_base.specs.declared.unit.Unit.TheVariants.{Bit}

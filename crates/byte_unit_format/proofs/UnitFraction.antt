@@ -15,9 +15,9 @@ use Rattle.byte_unit_math.specs.Digits.{at_places, trim_expansion}
 use Rattle.byte_unit_math.specs.Numeral.{text_of, short_numeral}
 use Rattle.byte_unit_math.proofs.Texts.{short_numeral_is_expansion, expansion_of_same_fraction, text_of_short_numeral}
 use Rattle.byte_unit_choice.specs.Choice.{IsRecoveredIn}
-use Rattle.byte_unit_base.specs.Kinds.{bits_in, counts_bits, own_unit}
-use Rattle.byte_unit_base.specs.Shape.{Shape, shape, bits}
-use Rattle.byte_unit_base.specs.Version.{unit_name_in, current}
+use Rattle.byte_unit_base.specs.Sizes.Kinds.{bits_in, counts_bits, own_unit}
+use Rattle.byte_unit_base.specs.Grammar.Shape.{Shape, shape, bits}
+use Rattle.byte_unit_base.specs.Grammar.Version.{unit_name_in, current}
 use Rattle.byte_unit_base.specs.declared.kind.Kind.{Kind}
 use Rattle.byte_unit_base.proofs.Names.{with_prefix}
 use Rattle.byte_unit_format.specs.Forms.{IsSizeForm}

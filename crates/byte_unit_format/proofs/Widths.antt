@@ -1,8 +1,8 @@
 -- The length of a text that is padded to a width, and of the name of a unit.
 use Rattle.std.proofs.Common.{◌≤◌, length, arith, ℕ}
 use Rattle.std.proofs.lemmas.Grind.{common_steps}
-use Rattle.byte_unit_base.specs.Shape.{Shape}
-use Rattle.byte_unit_base.specs.Version.{unit_name_in, current}
+use Rattle.byte_unit_base.specs.Grammar.Shape.{Shape}
+use Rattle.byte_unit_base.specs.Grammar.Version.{unit_name_in, current}
 use Rattle.std.proofs.lemmas.List.{length-append, length-replicate}
 use Rattle.byte_unit_format.specs.FormLaws.{PlainFormFillsWidth, LayoutFillsWidth}
 

@@ -4,14 +4,14 @@
 use Rattle.std.proofs.Common.{rules, ◌≡◌, ℕ, ◌*◌, inl, inr, false, List, refl, sym, ◌∙◌, ⊎_elim, ◌+◌, ◌-◌, ◌<◌, min}
 use Rattle.std.proofs.Common.{zero, suc, Bool, true, ◌∷◌, ◌++◌, length, take, replicate, arith, ap, MatchBool}
 use Rattle.std.proofs.Math.Nat.{eq_of_mul-eq-mul_right}
-use Rattle.byte_unit_base.specs.Shape.{Shape, bits}
-use Rattle.byte_unit_base.specs.Version.{Version, unit_name_in, current}
+use Rattle.byte_unit_base.specs.Grammar.Shape.{Shape, bits}
+use Rattle.byte_unit_base.specs.Grammar.Version.{Version, unit_name_in, current}
 use Rattle.byte_unit_choice.specs.Choice.{IsRecoveredIn, family_for}
 use Rattle.byte_unit_choice.proofs.Choosing.{some_bits, own_number}
 use Rattle.byte_unit_choice.proofs.OneChoice.{one_largest}
 use Rattle.byte_unit_base.specs.declared.kind.Kind.{Kind}
 use Rattle.byte_unit_format.specs.declared.spec.FormatSpec.{FormatSpec}
-use Rattle.byte_unit_base.specs.Kinds.{bits_in, own_unit}
+use Rattle.byte_unit_base.specs.Sizes.Kinds.{bits_in, own_unit}
 use Rattle.byte_unit_choice.specs.Family.{own_family}
 use Rattle.byte_unit_format.specs.Forms.{places_of, IsSizeFormIn, IsSizeForm, IsText}
 use Rattle.byte_unit_math.specs.Bounds.{scale, places_of_decimal}

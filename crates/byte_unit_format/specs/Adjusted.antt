@@ -8,14 +8,14 @@ use Rattle.byte_unit_math.specs.Digits.{expansion_of}
 use Rattle.byte_unit_math.specs.Numeral.{text_of, numeral, short_numeral}
 use Rattle.byte_unit_math.specs.declared.expansion.Ties.TheVariants.{Even, Up}
 use Rattle.byte_unit_choice.specs.Choice.{IsAppropriate}
-use Rattle.byte_unit_base.specs.Shape.{Shape, bits}
-use Rattle.byte_unit_base.specs.Version.{Version, unit_name_in, current}
+use Rattle.byte_unit_base.specs.Grammar.Shape.{Shape, bits}
+use Rattle.byte_unit_base.specs.Grammar.Version.{Version, unit_name_in, current}
 use Rattle.byte_unit_base.specs.declared.kind.Kind.{Kind}
 use Rattle.byte_unit_format.specs.declared.spec.FormatSpec.{FormatSpec}
-use Rattle.byte_unit_base.specs.Kinds.{bits_in}
+use Rattle.byte_unit_base.specs.Sizes.Kinds.{bits_in}
 use Rattle.byte_unit_format.specs.Layout.{layout}
 use Rattle.byte_unit_format.specs.Plain.{least_columns}
-use Rattle.byte_unit_base.specs.Units.{shape_of}
+use Rattle.byte_unit_base.specs.Grammar.Units.{shape_of}
 use Rattle.byte_unit_base.specs.declared.unit.Unit.{Unit as UnitName}
 use Rattle.byte_unit_choice.specs.declared.unit_type.UnitType.{UnitType}
 

@@ -1,10 +1,10 @@
 -- Strings of sizes for the binary reading.
 use Rattle.std.specs.Prelude.{◌≡◌, ℕ, ◌<◌, Bool, false, if◌then◌else◌, nat_lt, List, Option, None}
-use Rattle.byte_unit_base.specs.Shape.{Shape}
-use Rattle.byte_unit_base.specs.Version.{current}
-use Rattle.byte_unit_base.specs.Accepted.{IsAccepted}
-use Rattle.byte_unit_base.specs.BinaryReading.{IsBinaryAccepted}
-use Rattle.byte_unit_base.specs.Units.{shape_of}
+use Rattle.byte_unit_base.specs.Grammar.Shape.{Shape}
+use Rattle.byte_unit_base.specs.Grammar.Version.{current}
+use Rattle.byte_unit_base.specs.Sizes.Accepted.{IsAccepted}
+use Rattle.byte_unit_base.specs.Reading.Binary.{IsBinaryAccepted}
+use Rattle.byte_unit_base.specs.Grammar.Units.{shape_of}
 use Rattle.byte_unit_base.specs.declared.unit.Unit.{Unit as UnitName}
 use Rattle.byte_unit_choice.specs.Choice.{IsRecovered, IsRecoveredIn}
 use Rattle.byte_unit_base.specs.declared.kind.Kind.{Kind}

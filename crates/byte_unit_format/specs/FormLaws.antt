@@ -5,18 +5,18 @@ use Rattle.std.specs.Fmt.{decimal}
 use Rattle.byte_unit_math.specs.Bounds.{places_of_decimal, expansion_places}
 use Rattle.byte_unit_math.specs.Exact.{IsExactAt, IsLeastPlaces}
 use Rattle.byte_unit_math.specs.Powers.{TakesLackingPlaces}
-use Rattle.byte_unit_base.specs.Shape.{Shape, bits, twos, fives}
-use Rattle.byte_unit_base.specs.Version.{Version, current}
-use Rattle.byte_unit_base.specs.Units.{shape_of}
-use Rattle.byte_unit_base.specs.Accepted.{IsAccepted, IsAcceptedIn, IsRejectedIn}
-use Rattle.byte_unit_base.specs.Fault.{too_long}
+use Rattle.byte_unit_base.specs.Grammar.Shape.{Shape, bits, twos, fives}
+use Rattle.byte_unit_base.specs.Grammar.Version.{Version, current}
+use Rattle.byte_unit_base.specs.Grammar.Units.{shape_of}
+use Rattle.byte_unit_base.specs.Sizes.Accepted.{IsAccepted, IsAcceptedIn, IsRejectedIn}
+use Rattle.byte_unit_base.specs.Errors.Fault.{too_long}
 use Rattle.byte_unit_format.specs.Adjusted.{IsAdjustedFormIn, adjusted_text_in}
 use Rattle.byte_unit_format.specs.AdjustedString.{IsAdjustedString, IsGreatest}
 use Rattle.byte_unit_format.specs.Forms.{IsSizeForm, IsSizeFormIn, IsText, IsTextIn}
 use Rattle.byte_unit_format.specs.Layout.{layout, gap_of}
 use Rattle.byte_unit_format.specs.NamedSpecs.{plain_spec, alternate_spec}
 use Rattle.byte_unit_format.specs.Plain.{plain, signed_digits, least_columns}
-use Rattle.byte_unit_base.specs.Kinds.{bits_in}
+use Rattle.byte_unit_base.specs.Sizes.Kinds.{bits_in}
 use Rattle.byte_unit_base.specs.declared.kind.Kind.{Kind}
 use Rattle.byte_unit_base.specs.declared.kind.Kind.TheVariants.{Byte, Bit as OfBits}
 use Rattle.byte_unit_base.specs.declared.unit.Unit.{Unit as UnitName}

@@ -3,15 +3,15 @@ use Rattle.std.specs.Prelude.{ℕ, ◌+◌, ◌-◌, List, ◌++◌, length, Opt
 use Rattle.byte_unit_math.specs.Finite.{Finite}
 use Rattle.byte_unit_math.specs.Numeral.{text_of}
 use Rattle.byte_unit_math.specs.Padded.{pad_of}
-use Rattle.byte_unit_base.specs.Shape.{Shape}
-use Rattle.byte_unit_base.specs.Version.{Version, unit_name_in, current}
+use Rattle.byte_unit_base.specs.Grammar.Shape.{Shape}
+use Rattle.byte_unit_base.specs.Grammar.Version.{Version, unit_name_in, current}
 use Rattle.byte_unit_format.specs.Plain.{padding_for, spaces}
 use Rattle.byte_unit_format.specs.declared.spec.Sign.{Sign}
 use Rattle.byte_unit_format.specs.declared.spec.Sign.TheVariants.{Unset, Plus, Minus}
 use Rattle.byte_unit_format.specs.declared.spec.Align.{Align}
 use Rattle.byte_unit_format.specs.declared.spec.Align.TheVariants.{Left, Center, Right}
 use Rattle.byte_unit_format.specs.declared.spec.FormatSpec.{FormatSpec}
-use Rattle.byte_unit_base.specs.Units.{shape_of}
+use Rattle.byte_unit_base.specs.Grammar.Units.{shape_of}
 use Rattle.byte_unit_base.specs.declared.unit.Unit.{Unit as UnitName}
 
 -- The spaces between number and unit: one, none with a minus sign, and with a plus sign as many as make four columns

@@ -1,6 +1,6 @@
 -- Private: how the number of a size in a unit is rounded.
 use Rattle.std.specs.Prelude.{⊤, ◌≡◌, ◌^◌, ◌<◌}
-use Rattle.byte_unit_base.specs.Units.{shape_of}
+use Rattle.byte_unit_base.specs.Grammar.Units.{shape_of}
 use Rattle.byte_unit_base.specs.declared.unit.Unit.{Unit as UnitName}
 use Rattle.byte_unit_format.specs.Adjusted.{Rule, full, round_to, short_to, rule_of}
 use Rattle.byte_unit_format.specs.declared.adjusted.Rounding.{Rounding}

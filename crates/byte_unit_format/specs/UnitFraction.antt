@@ -4,9 +4,9 @@ use Rattle.byte_unit_math.specs.Bounds.{scale}
 use Rattle.byte_unit_math.specs.Digits.{last_digits, trim_zeros}
 use Rattle.byte_unit_math.specs.Numeral.{fraction_text}
 use Rattle.byte_unit_choice.specs.Choice.{IsRecoveredIn}
-use Rattle.byte_unit_base.specs.Kinds.{bits_in, counts_bits, own_unit}
-use Rattle.byte_unit_base.specs.Shape.{Shape, bits, shape}
-use Rattle.byte_unit_base.specs.Version.{unit_name_in, current}
+use Rattle.byte_unit_base.specs.Sizes.Kinds.{bits_in, counts_bits, own_unit}
+use Rattle.byte_unit_base.specs.Grammar.Shape.{Shape, bits, shape}
+use Rattle.byte_unit_base.specs.Grammar.Version.{unit_name_in, current}
 use Rattle.byte_unit_base.specs.declared.kind.Kind.{Kind}
 use Rattle.byte_unit_format.specs.declared.thousandths.UnitFraction.{UnitFraction}
 use Rattle.byte_unit_format.specs.declared.thousandths.UnitFraction.TheVariants.{Own, Eighths, Thousandths}

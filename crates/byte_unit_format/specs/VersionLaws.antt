@@ -1,8 +1,8 @@
 -- What stays as in the first version, for stored strings and printed sizes.
 use Rattle.std.specs.Prelude.{◌↔◌, ℕ, ◌<◌, ◌≤◌, Bool, List, length}
-use Rattle.byte_unit_base.specs.Shape.{Shape}
-use Rattle.byte_unit_base.specs.Version.{first_version, current}
-use Rattle.byte_unit_base.specs.Accepted.{IsAccepted, IsAcceptedIn}
+use Rattle.byte_unit_base.specs.Grammar.Shape.{Shape}
+use Rattle.byte_unit_base.specs.Grammar.Version.{first_version, current}
+use Rattle.byte_unit_base.specs.Sizes.Accepted.{IsAccepted, IsAcceptedIn}
 use Rattle.byte_unit_choice.specs.Choice.{IsAppropriateIn}
 use Rattle.byte_unit_format.specs.Adjusted.{IsAdjustedFormIn}
 use Rattle.byte_unit_format.specs.Forms.{IsSizeForm, IsSizeFormIn}

@@ -4,8 +4,8 @@ ghost use Rattle.std.specs.Prelude.{◌≡◌, ◌+◌, ◌-◌, ◌*◌, ◌<�
 ghost use Rattle.std.specs.Prelude.{◌^◌};
 ghost use Rattle.std.specs.Fmt.{decimal};
 ghost use Rattle.byte_unit_math.specs.Bounds.{size_limit};
-ghost use Rattle.byte_unit_base.specs.Kinds.{own_unit};
-ghost use Rattle.byte_unit_base.specs.Version.{current, unit_name_in};
+ghost use Rattle.byte_unit_base.specs.Sizes.Kinds.{own_unit};
+ghost use Rattle.byte_unit_base.specs.Grammar.Version.{current, unit_name_in};
 ghost use Rattle.byte_unit_format.specs.Forms.{IsSizeForm, narrow_text};
 ghost use Rattle.byte_unit_format.specs.NamedSpecs.{alternate_spec};
 ghost use Rattle.byte_unit_format.specs.UnitFraction.{IsProperFraction, unit_fraction_text, thousandths_text};

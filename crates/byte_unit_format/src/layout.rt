@@ -2,7 +2,7 @@
 
 ghost use Rattle.std.specs.Prelude.{◌≡◌, ◌+◌, ◌≤◌, ◌++◌, length, max};
 ghost use Rattle.std.specs.Fmt.{decimal};
-ghost use Rattle.byte_unit_base.specs.Version.{unit_name};
+ghost use Rattle.byte_unit_base.specs.Grammar.Version.{unit_name};
 ghost use Rattle.byte_unit_format.specs.Room.{AppendsForm};
 ghost use Rattle.byte_unit_format.specs.Layout.{layout, layout_of};
 ghost use Rattle.byte_unit_format.specs.TextParts.{fraction_of, places_in, FitsPlaces, IsReady, parts_text};

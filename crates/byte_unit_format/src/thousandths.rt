@@ -5,9 +5,9 @@ ghost use Rattle.std.specs.Prelude.{◌≡◌, ◌+◌, ◌*◌, ◌-◌, ◌%�
 ghost use Rattle.byte_unit_math.specs.Bounds.{size_limit};
 ghost use Rattle.byte_unit_base.specs.declared.kind.Kind.{Kind as OfKind};
 ghost use Rattle.byte_unit_choice.specs.Choice.{IsRecoveredIn};
-ghost use Rattle.byte_unit_base.specs.Kinds.{counts_bits};
-ghost use Rattle.byte_unit_base.specs.Shape.{shape};
-ghost use Rattle.byte_unit_base.specs.Version.{current};
+ghost use Rattle.byte_unit_base.specs.Sizes.Kinds.{counts_bits};
+ghost use Rattle.byte_unit_base.specs.Grammar.Shape.{shape};
+ghost use Rattle.byte_unit_base.specs.Grammar.Version.{current};
 ghost use Rattle.byte_unit_format.specs.FewPlaces.{IsGreatestPower};
 ghost use Rattle.byte_unit_format.specs.UnitFraction.{IsProperFraction, IsSplit};
 

@@ -4,8 +4,8 @@ use Rattle.std.proofs.Common.{append_assoc, append-nil, set, Result, Ok, Err, On
 use Rattle.std.specs.Prelude.{⊤, Some, None}
 use Rattle.std.specs.Fmt.{decimal}
 use Rattle.std.proofs.lemmas.List.{take_more_set}
-use Rattle.byte_unit.specs.Errors.{size_fault}
-use Rattle.byte_unit.specs.SizeReading.{IsBytesReading}
+use Rattle.byte_unit.specs.Errors.Meaning.{size_fault}
+use Rattle.byte_unit.specs.Reading.Results.{IsBytesReading}
 use Rattle.byte_unit.specs.declared.ParseError.{ParseError}
 use Rattle.byte_unit.specs.WithDigits.{IsTextWithDigits}
 use Rattle.byte_unit_lines.specs.Answer.{Kind, IsAnswer, ShowsSize, words_of, not_text, size, rejected}

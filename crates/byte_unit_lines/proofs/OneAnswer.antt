@@ -7,13 +7,13 @@ use Rattle.byte_unit_lines.specs.Answer.{Kind, ShowsSize, IsMessageFor, IsAnswer
 use Rattle.byte_unit_lines.specs.Laws.{EachLineHasAnAnswer, HasOneReport}
 use Rattle.byte_unit_lines.specs.Lines.{lines_of}
 use Rattle.byte_unit_lines.specs.Report.{AreAnswers}
-use Rattle.byte_unit.specs.Accepted.{IsAccepted, IsRejected}
-use Rattle.byte_unit.specs.Version.{current}
-use Rattle.byte_unit.specs.Fault.{Fault}
+use Rattle.byte_unit.specs.Sizes.Accepted.{IsAccepted, IsRejected}
+use Rattle.byte_unit.specs.Grammar.Version.{current}
+use Rattle.byte_unit.specs.Errors.Fault.{Fault}
 use Rattle.byte_unit.specs.FormLaws.{SizeHasOneForm}
 use Rattle.byte_unit.specs.NamedSpecs.{plain_spec, alternate_spec}
 use Rattle.byte_unit.specs.Plain.{plain}
-use Rattle.byte_unit.specs.SizeLaws.{TextsAreAcceptedOrRejected}
+use Rattle.byte_unit.specs.Laws.Sizes.{TextsAreAcceptedOrRejected}
 use Rattle.byte_unit_lines.proofs.Answering.{lines_have_answers}
 
 module _ (texts : TextsAreAcceptedOrRejected) (forms : SizeHasOneForm) (kind : Kind) where

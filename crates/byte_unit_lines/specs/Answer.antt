@@ -2,8 +2,8 @@
 use Rattle.std.specs.Prelude.{◌≡◌, ℕ, false, List, [], ◌∷◌, ◌++◌, codes}
 use Rattle.std.specs.Str.{IsUtf8}
 use Rattle.byte_unit_lines.specs.Lines.{line_end}
-use Rattle.byte_unit.specs.Accepted.{IsAccepted, IsRejected}
-use Rattle.byte_unit.specs.Fault.{Fault, exceeded, not_number, no_value, too_long, bad_unit}
+use Rattle.byte_unit.specs.Sizes.Accepted.{IsAccepted, IsRejected}
+use Rattle.byte_unit.specs.Errors.Fault.{Fault, exceeded, not_number, no_value, too_long, bad_unit}
 use Rattle.byte_unit.specs.Forms.{IsText}
 use Rattle.byte_unit.specs.NamedSpecs.{plain_spec, alternate_spec}
 pub use Rattle.byte_unit.specs.declared.Kind.{Kind}

@@ -1,8 +1,8 @@
 //! The answer to one line.
 
 ghost use Rattle.std.specs.Prelude.{◌≡◌, ◌∷◌, [], ◌++◌, OnErr, OnOk, cond, take};
-ghost use Rattle.byte_unit.specs.Errors.{size_fault};
-ghost use Rattle.byte_unit.specs.Line.{IsLine};
+ghost use Rattle.byte_unit.specs.Errors.Meaning.{size_fault};
+ghost use Rattle.byte_unit.specs.Reading.Line.{IsLine};
 ghost use Rattle.byte_unit_lines.specs.Answer.{words_of};
 ghost use Rattle.byte_unit_lines.specs.Lines.{line_end};
 ghost use Rattle.byte_unit_lines.specs.Answered.{AddsAnswer};

@@ -2,7 +2,7 @@
 use Rattle.std.specs.Prelude.{◌≡◌, ℕ, List, ◌++◌, codes, IfSome}
 use Rattle.std.specs.Fmt.{debug_str}
 use Rattle.std.specs.Fmt.Cut.{IsTextOrCut, cut_to}
-use Rattle.byte_unit.specs.Fault.{Fault, exceeded, not_number, no_value, too_long, bad_unit}
+use Rattle.byte_unit.specs.Errors.Fault.{Fault, exceeded, not_number, no_value, too_long, bad_unit}
 
 -- The reason for a string that is rejected with this error.
 abbrev pub reason_of : Fault → List ℕ

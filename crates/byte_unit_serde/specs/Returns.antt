@@ -5,9 +5,9 @@ use Rattle.std.specs.Result.{result_map_both}
 use Rattle.serde.specs.Event.{Event, seq_begins}
 use Rattle.serde.specs.Steps.{Gives, Stays}
 use Rattle.serde.specs.declared.deserializer.Deserializer.{Deserializer}
-use Rattle.byte_unit.specs.Errors.{size_fault, unit_fault}
-use Rattle.byte_unit.specs.Readings.{IsUnitReading}
-use Rattle.byte_unit.specs.Spelling.{flags_of}
+use Rattle.byte_unit.specs.Errors.Meaning.{size_fault, unit_fault}
+use Rattle.byte_unit.specs.Reading.Results.{IsUnitReading}
+use Rattle.byte_unit.specs.Grammar.Spelling.{flags_of}
 use Rattle.byte_unit.specs.Forms.{IsText}
 use Rattle.byte_unit.specs.NamedSpecs.{alternate_spec}
 use Rattle.byte_unit.specs.declared.Kind.{Kind}

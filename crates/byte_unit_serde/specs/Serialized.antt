@@ -3,10 +3,10 @@ use Rattle.std.specs.Prelude.{◌≡◌, ℕ, List, [], ◌∷◌, Option, Some,
 use Rattle.serde.specs.Event.{Event, Log, Logs, text, nothing, seq_begins, seq_ends}
 use Rattle.serde.specs.Steps.{Gives, Begins, Stays}
 use Rattle.serde.specs.declared.deserializer.Deserializer.{Deserializer}
-use Rattle.byte_unit.specs.Version.{current, unit_name}
-use Rattle.byte_unit.specs.Units.{shape_of}
-use Rattle.byte_unit.specs.Spelling.{Spells, flags_of}
-use Rattle.byte_unit.specs.SizeText.{trim_of}
+use Rattle.byte_unit.specs.Grammar.Version.{current, unit_name}
+use Rattle.byte_unit.specs.Grammar.Units.{shape_of}
+use Rattle.byte_unit.specs.Grammar.Spelling.{Spells, flags_of}
+use Rattle.byte_unit.specs.Grammar.SizeText.{trim_of}
 use Rattle.byte_unit.specs.Forms.{IsText}
 use Rattle.byte_unit.specs.NamedSpecs.{alternate_spec}
 use Rattle.byte_unit.specs.declared.Kind.{Kind}

@@ -1,7 +1,7 @@
 -- The errors of sizes and units from TOML strings.
 use Rattle.std.specs.Prelude.{ℕ, List, Option, Some, codes}
-use Rattle.byte_unit.specs.FaultText.{parse_text, unit_text}
-use Rattle.byte_unit.specs.JsonReading.{JsonErrors}
+use Rattle.byte_unit.specs.Errors.Text.{parse_text, unit_text}
+use Rattle.byte_unit.specs.Reading.Results.{JsonErrors}
 use Rattle.byte_unit.specs.declared.ParseError.{ParseError}
 use Rattle.byte_unit.specs.declared.UnitParseError.{UnitParseError}
 use Rattle.byte_unit_serde.specs.declared.toml_values.TomlSizeError.{TomlSizeError}

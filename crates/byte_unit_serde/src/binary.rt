@@ -1,7 +1,7 @@
 //! Sizes in bytes as strings whose prefixes are by 1024.
 
 ghost use Rattle.std.specs.Prelude.{◌≡◌, ℕ, List, true, None};
-ghost use Rattle.byte_unit.specs.BinaryReading.{IsBinaryAccepted, IsBinaryReading};
+ghost use Rattle.byte_unit.specs.Reading.Binary.{IsBinaryAccepted, IsBinaryReading};
 ghost use Rattle.byte_unit.specs.BinaryString.{IsBinaryString};
 ghost use Rattle.byte_unit.specs.Forms.{IsText};
 ghost use Rattle.byte_unit.specs.declared.Kind.TheVariants.{Byte as InBytes};

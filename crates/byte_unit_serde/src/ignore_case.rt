@@ -1,8 +1,8 @@
 //! Sizes in bytes as strings that are read with case ignored.
 
 ghost use Rattle.std.specs.Prelude.{true};
-ghost use Rattle.byte_unit.specs.Accepted.{IsAccepted};
-ghost use Rattle.byte_unit.specs.SizeReading.{IsSizeReading};
+ghost use Rattle.byte_unit.specs.Sizes.Accepted.{IsAccepted};
+ghost use Rattle.byte_unit.specs.Reading.Results.{IsSizeReading};
 ghost use Rattle.byte_unit.specs.declared.Kind.TheVariants.{Byte as InBytes};
 ghost use Rattle.byte_unit_serde.specs.Returns.{ParsesSize};
 

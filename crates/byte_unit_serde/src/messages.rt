@@ -2,7 +2,7 @@
 
 ghost use Rattle.std.specs.Prelude.{◌≡◌, ◌≤◌, length};
 ghost use Rattle.std.specs.Fmt.InlineText.{inline_text};
-ghost use Rattle.byte_unit.specs.Errors.{size_fault};
+ghost use Rattle.byte_unit.specs.Errors.Meaning.{size_fault};
 ghost use Rattle.byte_unit_serde.specs.Messages.{IsMessage, reason_of};
 
 use byte_unit::{ParseError, ValueParseError};

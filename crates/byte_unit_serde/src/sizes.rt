@@ -1,10 +1,10 @@
 //! Sizes in bytes and in bits as strings.
 
 ghost use Rattle.std.specs.Prelude.{◌≡◌, ◌<◌, false, None, OnOk};
-ghost use Rattle.byte_unit.specs.Accepted.{IsAccepted};
+ghost use Rattle.byte_unit.specs.Sizes.Accepted.{IsAccepted};
 ghost use Rattle.byte_unit.specs.Bounds.{size_limit};
 ghost use Rattle.byte_unit.specs.Forms.{IsText};
-ghost use Rattle.byte_unit.specs.SizeReading.{IsSizeReading};
+ghost use Rattle.byte_unit.specs.Reading.Results.{IsSizeReading};
 ghost use Rattle.byte_unit.specs.declared.Kind.TheVariants.{Bit as InBits, Byte as InBytes};
 ghost use Rattle.byte_unit_serde.specs.Returns.{ParsesSize, WritingSize, WritingSizeAs};
 ghost use Rattle.byte_unit_serde.specs.Serialized.{WritesSize, WritesSizeAs};

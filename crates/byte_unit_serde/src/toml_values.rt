@@ -3,10 +3,8 @@
 ghost use Rattle.std.specs.Prelude.{false, true};
 ghost use Rattle.toml.specs.Data.{as_str};
 ghost use Rattle.toml.specs.View.{view};
-ghost use Rattle.byte_unit.specs.JsonReading.{ReadsString};
-ghost use Rattle.byte_unit.specs.Readings.{IsUnitReading};
-ghost use Rattle.byte_unit.specs.SizeReading.{IsSizeReading};
-ghost use Rattle.byte_unit.specs.Spelling.{flags_of};
+ghost use Rattle.byte_unit.specs.Reading.Results.{ReadsString, IsUnitReading, IsSizeReading};
+ghost use Rattle.byte_unit.specs.Grammar.Spelling.{flags_of};
 ghost use Rattle.byte_unit.specs.declared.Kind.TheVariants.{Bit as InBits, Byte as InBytes};
 ghost use Rattle.byte_unit_serde.specs.TomlErrors.{size_errors, size_text, unit_error_text, unit_errors};
 

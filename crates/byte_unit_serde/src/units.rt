@@ -1,6 +1,6 @@
 //! Units as strings.
 
-ghost use Rattle.byte_unit.specs.Version.{unit_name};
+ghost use Rattle.byte_unit.specs.Grammar.Version.{unit_name};
 ghost use Rattle.byte_unit_serde.specs.Returns.{ParsesUnit};
 ghost use Rattle.byte_unit_serde.specs.Serialized.{SpellsUnit, WritesUnit};
 

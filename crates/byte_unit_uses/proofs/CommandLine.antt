@@ -6,8 +6,8 @@ use Rattle.clap.specs.Words.{App, HasMatchesOf, TriesOne, found_of, is_simple, m
 use Rattle.clap.specs.declared.parser.matches.ArgMatches.{ArgMatches}
 use Rattle.clap.proofs.WalkLemmas.{one_text-rows}
 use Rattle.clap.proofs.OnLiterals.{clap_on_literals}
-use Rattle.byte_unit.specs.Accepted.{IsAccepted}
-use Rattle.byte_unit.specs.SizeReading.{IsSizeReading}
+use Rattle.byte_unit.specs.Sizes.Accepted.{IsAccepted}
+use Rattle.byte_unit.specs.Reading.Results.{IsSizeReading}
 use Rattle.byte_unit.specs.declared.Kind.TheVariants.{Byte as InBytes}
 use Rattle.byte_unit.specs.declared.ParseError.{ParseError}
 use Rattle.byte_unit_uses.specs.CommandLine.{copy_app, option_value}

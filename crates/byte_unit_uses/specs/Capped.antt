@@ -1,7 +1,7 @@
 -- Limits with a maximum, and their errors.
 use Rattle.std.specs.Prelude.{◌≡◌, ℕ, ◌<◌, false, List, Option, Some, None, Result, Ok, Err}
-use Rattle.byte_unit.specs.Accepted.{IsAccepted, IsRejected}
-use Rattle.byte_unit.specs.Errors.{size_fault}
+use Rattle.byte_unit.specs.Sizes.Accepted.{IsAccepted, IsRejected}
+use Rattle.byte_unit.specs.Errors.Meaning.{size_fault}
 use Rattle.byte_unit.specs.declared.ParseError.{ParseError}
 use Rattle.byte_unit.specs.declared.Kind.TheVariants.{Byte as InBytes}
 use Rattle.byte_unit_uses.specs.declared.capped.LimitError.{LimitError}

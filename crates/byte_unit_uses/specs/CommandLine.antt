@@ -5,8 +5,8 @@ use Rattle.clap.specs.Words.{App, Rule, kind_of, matches_of, new_app, new_rule, 
 use Rattle.clap.specs.Walk.{texts}
 use Rattle.clap.specs.declared.error.Error.{Error}
 use Rattle.clap.specs.declared.error.kind.ErrorKind.TheVariants.{OutOfMemory, ValueValidation}
-use Rattle.byte_unit.specs.Accepted.{IsAccepted, IsRejected}
-use Rattle.byte_unit.specs.Fault.{Fault}
+use Rattle.byte_unit.specs.Sizes.Accepted.{IsAccepted, IsRejected}
+use Rattle.byte_unit.specs.Errors.Fault.{Fault}
 use Rattle.byte_unit.specs.declared.Kind.TheVariants.{Byte as InBytes}
 
 -- The rule of the option: `--max-size` takes a value.

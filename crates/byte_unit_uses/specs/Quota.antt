@@ -1,7 +1,7 @@
 -- The errors of a quota.
 use Rattle.std.specs.Prelude.{ℕ, ◌<◌, false, List}
-use Rattle.byte_unit.specs.Accepted.{IsAccepted, IsRejected}
-use Rattle.byte_unit.specs.Errors.{size_fault}
+use Rattle.byte_unit.specs.Sizes.Accepted.{IsAccepted, IsRejected}
+use Rattle.byte_unit.specs.Errors.Meaning.{size_fault}
 use Rattle.byte_unit.specs.declared.Kind.TheVariants.{Byte as InBytes}
 use Rattle.byte_unit_uses.specs.declared.quota.QuotaError.{QuotaError}
 use Rattle.byte_unit_uses.specs.declared.quota.QuotaError.TheVariants.{Text, Exceeded}

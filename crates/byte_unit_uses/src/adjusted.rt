@@ -1,13 +1,13 @@
 //! Units from strings, and a size in one.
 
 ghost use Rattle.std.specs.Prelude.{◌≡◌, ℕ, IfOk, IfErr, IsOkAnd, true, false};
-ghost use Rattle.byte_unit.specs.Version.{current};
-ghost use Rattle.byte_unit.specs.Errors.{size_fault, unit_fault};
-ghost use Rattle.byte_unit.specs.Fault.{IsSizeFault, IsUnitFault};
-ghost use Rattle.byte_unit.specs.Shape.{Shape};
-ghost use Rattle.byte_unit.specs.Spelling.{flags_of, Spells};
-ghost use Rattle.byte_unit.specs.SizeText.{trim_of, IsSizeText};
-ghost use Rattle.byte_unit.specs.Units.{shape_of};
+ghost use Rattle.byte_unit.specs.Grammar.Version.{current};
+ghost use Rattle.byte_unit.specs.Errors.Meaning.{size_fault, unit_fault};
+ghost use Rattle.byte_unit.specs.Errors.Fault.{IsSizeFault, IsUnitFault};
+ghost use Rattle.byte_unit.specs.Grammar.Shape.{Shape};
+ghost use Rattle.byte_unit.specs.Grammar.Spelling.{flags_of, Spells};
+ghost use Rattle.byte_unit.specs.Grammar.SizeText.{trim_of, IsSizeText};
+ghost use Rattle.byte_unit.specs.Grammar.Units.{shape_of};
 
 use byte_unit::{AdjustedByte, Byte, ParseError, Unit, UnitParseError, read_size};
 

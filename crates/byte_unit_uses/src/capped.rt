@@ -1,7 +1,7 @@
 //! Limits with a maximum, and matches on an error that holds a size.
 
 ghost use Rattle.std.specs.Prelude.{◌≡◌, ◌≤◌, IfOk, IfErr, false};
-ghost use Rattle.byte_unit.specs.Accepted.{IsAccepted};
+ghost use Rattle.byte_unit.specs.Sizes.Accepted.{IsAccepted};
 ghost use Rattle.byte_unit.specs.declared.Kind.TheVariants.{Byte as InBytes};
 ghost use Rattle.byte_unit_uses.specs.Capped.{IsLimitError, capped_limit, exceeded_max};
 

@@ -3,8 +3,8 @@
 ghost use Rattle.std.specs.Prelude.{◌≡◌, ℕ, List, Some, None, IfOk, IfErr, codes, true, false};
 ghost use Rattle.clap.specs.Walk.{texts};
 ghost use Rattle.clap.specs.Words.{found_of, one_text, takes};
-ghost use Rattle.byte_unit.specs.Accepted.{IsAccepted, IsRejected};
-ghost use Rattle.byte_unit.specs.Errors.{size_fault};
+ghost use Rattle.byte_unit.specs.Sizes.Accepted.{IsAccepted, IsRejected};
+ghost use Rattle.byte_unit.specs.Errors.Meaning.{size_fault};
 ghost use Rattle.byte_unit.specs.declared.Kind.TheVariants.{Byte as InBytes};
 ghost use Rattle.byte_unit_uses.specs.CommandLine.{IsOption, IsOptionError, copy_app, option_value};
 

@@ -2,9 +2,9 @@
 
 ghost use Rattle.std.specs.Prelude.{◌≡◌, ◌++◌, ◌∷◌, [], ◌<◌, ◌≤◌, IfOk, IfErr, SomeIff, OnOk, OnErr, false};
 ghost use Rattle.std.specs.Prelude.{sum_by, vec_len, vec_capacity};
-ghost use Rattle.byte_unit.specs.Accepted.{IsAccepted, IsRejected};
+ghost use Rattle.byte_unit.specs.Sizes.Accepted.{IsAccepted, IsRejected};
 ghost use Rattle.byte_unit.specs.Bounds.{size_limit};
-ghost use Rattle.byte_unit.specs.Errors.{size_fault};
+ghost use Rattle.byte_unit.specs.Errors.Meaning.{size_fault};
 ghost use Rattle.byte_unit.specs.declared.Kind.TheVariants.{Byte as InBytes};
 
 use byte_unit::{Byte, ParseError};

@@ -1,7 +1,7 @@
 //! Limits from strings, and a rate in bits from a size in bytes.
 
 ghost use Rattle.std.specs.Prelude.{◌≡◌, ◌*◌, ◌/◌, ◌<◌, ℕ, ◌⊎◌, IfSome, SomeIff, false, true};
-ghost use Rattle.byte_unit.specs.Accepted.{IsAccepted};
+ghost use Rattle.byte_unit.specs.Sizes.Accepted.{IsAccepted};
 ghost use Rattle.byte_unit.specs.Bounds.{size_limit};
 ghost use Rattle.byte_unit.specs.declared.Kind.TheVariants.{Byte as InBytes};
 

@@ -3,8 +3,8 @@
 
 ghost use Rattle.std.specs.Prelude.{◌≡◌, ◌*◌, codes, IsErrAnd, true};
 ghost use Rattle.byte_unit.specs.Bounds.{scale};
-ghost use Rattle.byte_unit.specs.Errors.{size_fault};
-ghost use Rattle.byte_unit.specs.Fault.{bad_unit};
+ghost use Rattle.byte_unit.specs.Errors.Meaning.{size_fault};
+ghost use Rattle.byte_unit.specs.Errors.Fault.{bad_unit};
 
 use byte_unit::{AdjustedBit, Byte, Decimal, ParseError, Unit, read_size};
 

@@ -1,7 +1,7 @@
 //! Error messages with context, for a program that only prints its errors.
 
 ghost use Rattle.std.specs.Prelude.{ℕ, IfOk, IsOk, false};
-ghost use Rattle.byte_unit.specs.Accepted.{IsAccepted};
+ghost use Rattle.byte_unit.specs.Sizes.Accepted.{IsAccepted};
 ghost use Rattle.byte_unit.specs.declared.Kind.TheVariants.{Byte as InBytes};
 
 use anyhow::{Context, Result};

@@ -1,7 +1,7 @@
 //! What is left of a quota from a string, and an error of its own.
 
 ghost use Rattle.std.specs.Prelude.{◌+◌, IfOk, IfErr, false};
-ghost use Rattle.byte_unit.specs.Accepted.{IsAccepted};
+ghost use Rattle.byte_unit.specs.Sizes.Accepted.{IsAccepted};
 ghost use Rattle.byte_unit.specs.declared.Kind.TheVariants.{Byte as InBytes};
 ghost use Rattle.byte_unit_uses.specs.Quota.{IsReason};
 

@@ -113,7 +113,7 @@ def words():
     cited, found = cited_by(chain(*shown_types().values())), []
     for module, spec in ((module, spec) for crate in crates() for module, spec in specs(crate).items()):
         names = [f"`{name}`" for name in spec.definitions if (spec.crate, module, name) in cited]
-        found += [f"[{module}](docs/DEFINITIONS.md#{module.lower()}): {', '.join(names)}"] * bool(names)
+        found += [f"[{module}](docs/DEFINITIONS.md#{module.lower().replace('.', '')}): {', '.join(names)}"] * bool(names)
     return "; ".join(found) + "."
 
 

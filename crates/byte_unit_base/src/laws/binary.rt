@@ -2,7 +2,7 @@
 
 #![tactic(auto, using(crate::proofs::BinaryTexts::each_text_with_i))]
 
-ghost use Rattle.byte_unit_base.specs.BinaryLaws.{BinaryReadingsAreThoseWithI, EachTextHasOneWithI};
+ghost use Rattle.byte_unit_base.specs.Laws.Binary.{BinaryReadingsAreThoseWithI, EachTextHasOneWithI};
 
 /// States that the binary reading of each string is the reading of it with an `i` after its decimal prefix. A string
 /// without a decimal prefix, or that is rejected, has the same result in both readings.

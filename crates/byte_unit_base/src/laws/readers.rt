@@ -2,11 +2,11 @@
 
 #![tactic(auto, using(crate::proofs::ParsedTexts::parsed_texts))]
 
-ghost use Rattle.byte_unit_base.specs.ReaderLaws.{UnitTextsHaveOneAnswer, SizeTextsHaveOneAnswer};
-ghost use Rattle.byte_unit_base.specs.ReaderLaws.{ViableUnitPrefixesAreBeginnings, ViableSizePrefixesAreBeginnings};
-ghost use Rattle.byte_unit_base.specs.ReaderLaws.{NamesSpellTheirUnits};
-ghost use Rattle.byte_unit_base.specs.ParsedLaws.{ParsedUnitsAreSpelled, ParsedNumbersAreRepresented};
-ghost use Rattle.byte_unit_base.specs.ParsedLaws.{ParsedSizesAreAccepted};
+ghost use Rattle.byte_unit_base.specs.Laws.Readers.{UnitTextsHaveOneAnswer, SizeTextsHaveOneAnswer};
+ghost use Rattle.byte_unit_base.specs.Laws.Readers.{ViableUnitPrefixesAreBeginnings, ViableSizePrefixesAreBeginnings};
+ghost use Rattle.byte_unit_base.specs.Laws.Readers.{NamesSpellTheirUnits};
+ghost use Rattle.byte_unit_base.specs.Laws.Parsed.{ParsedUnitsAreSpelled, ParsedNumbersAreRepresented};
+ghost use Rattle.byte_unit_base.specs.Laws.Parsed.{ParsedSizesAreAccepted};
 
 /// States that under given flags each string spells one unit or has one error, and not both.
 pub fn unit_texts_have_one_answer()

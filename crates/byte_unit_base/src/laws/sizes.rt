@@ -2,8 +2,8 @@
 
 #![tactic(auto, using(crate::proofs::Rounding::more_covers_more, crate::proofs::Rounding::one_least_size))]
 
-ghost use Rattle.byte_unit_base.specs.SizeLaws.{GreaterNumbersGiveNoSmallerSizes, EachNumberHasOneLeastSize};
-ghost use Rattle.byte_unit_base.specs.SizeLaws.{EachTextIsOneOfThree, TextsAreAcceptedOrRejected};
+ghost use Rattle.byte_unit_base.specs.Laws.Sizes.{GreaterNumbersGiveNoSmallerSizes, EachNumberHasOneLeastSize};
+ghost use Rattle.byte_unit_base.specs.Laws.Sizes.{EachTextIsOneOfThree, TextsAreAcceptedOrRejected};
 
 /// States that for one unit a greater number never has a smaller size.
 pub fn greater_numbers_give_no_smaller_sizes()

@@ -6,7 +6,7 @@ ghost use Rattle.core.specs.Dec2flt.Digits.{IsEightDigits};
 ghost use Rattle.core.specs.Float.Numeral.{digits_len};
 ghost use Rattle.core.specs.Int.Digits.{number_from_digits};
 ghost use Rattle.std.specs.Str.Parse.{AllDigits, digits_value};
-ghost use Rattle.byte_unit_base.specs.ParserEnds.{IsLineOf, IsNumberEnd, IsWhole};
+ghost use Rattle.byte_unit_base.specs.Reading.Ends.{IsLineOf, IsNumberEnd, IsWhole};
 
 use crate::read::load::load_eight;
 use crate::stop::{ByteStop, NumberStop};

@@ -2,7 +2,7 @@
 
 ghost use Rattle.std.specs.Prelude.{◌≡◌, ◌+◌, ◌<◌, ◌≤◌, length, take, drop};
 ghost use lib.Lanes.{number_l};
-ghost use Rattle.byte_unit_base.specs.ParserEnds.{first_eight};
+ghost use Rattle.byte_unit_base.specs.Reading.Ends.{first_eight};
 
 use std::simd::prelude::*;
 

@@ -2,10 +2,9 @@
 
 ghost use Rattle.std.specs.Prelude.{◌≡◌, ◌≢◌, Some, ◌≤◌, length, drop};
 ghost use lib.Lanes.{digits_l};
-ghost use Rattle.byte_unit_base.specs.Units.{shape_of};
-ghost use Rattle.byte_unit_base.specs.UnitScan.{count_of, multiple_shape};
-ghost use Rattle.byte_unit_base.specs.UnitWord.{multiple_of, word_of, bits_len};
-ghost use Rattle.byte_unit_base.specs.ParserEnds.{IsLineOf, IsUnitEnd};
+ghost use Rattle.byte_unit_base.specs.Grammar.Units.{shape_of};
+ghost use Rattle.byte_unit_base.specs.Reading.Machines.{count_of, multiple_shape};
+ghost use Rattle.byte_unit_base.specs.Reading.Ends.{multiple_of, word_of, bits_len, IsLineOf, IsUnitEnd};
 
 use crate::Unit;
 use crate::read::load::eight_at;

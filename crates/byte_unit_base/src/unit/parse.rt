@@ -1,7 +1,7 @@
 //! The parser of a unit in a string.
 
-ghost use Rattle.byte_unit_base.specs.Spelling.{flags_of};
-ghost use Rattle.byte_unit_base.specs.Outcome.{IsUnitOrStop};
+ghost use Rattle.byte_unit_base.specs.Grammar.Spelling.{flags_of};
+ghost use Rattle.byte_unit_base.specs.Reading.Ends.{IsUnitOrStop};
 
 use crate::read::leading_len;
 use crate::read::unit::read_unit;
@@ -11,8 +11,8 @@ use crate::{Unit, UnitParseError};
 use std::str::FromStr;
 
 impl Unit {
-    ghost use Rattle.byte_unit_base.specs.Readings.{IsUnitReading};
-    ghost use Rattle.byte_unit_base.specs.ErrorPosition.{IsUnitPosition};
+    ghost use Rattle.byte_unit_base.specs.Reading.Results.{IsUnitReading};
+    ghost use Rattle.byte_unit_base.specs.Errors.Position.{IsUnitPosition};
 
     /// Parses a unit from a string. White space at its ends is ignored.
     ///
@@ -97,7 +97,7 @@ impl FromStr for Unit {
     type Err = UnitParseError;
 
     ghost use Rattle.std.specs.Prelude.{true, false};
-    ghost use Rattle.byte_unit_base.specs.Readings.{IsUnitReading};
+    ghost use Rattle.byte_unit_base.specs.Reading.Results.{IsUnitReading};
 
     ghost from_str_gives = { IsUnitReading (flags_of false true) };
 

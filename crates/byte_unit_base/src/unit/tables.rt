@@ -3,8 +3,8 @@
 //! They are tables, and not a `match` over the units, for the row `mix` of docs/SPEED.md.
 
 ghost use Rattle.std.specs.Prelude.{◌≡◌, ◌≤◌, ◌-◌, slice_index, slice_get};
-ghost use Rattle.byte_unit_base.specs.UnitLists.{units};
-ghost use Rattle.byte_unit_base.specs.Version.{current};
+ghost use Rattle.byte_unit_base.specs.Grammar.Units.{units};
+ghost use Rattle.byte_unit_base.specs.Grammar.Version.{current};
 
 use crate::unit::{Shape, Unit, UnitData};
 

@@ -2,7 +2,7 @@
 //! Parsing of sizes in bits whose decimal prefixes mean binary ones.
 
 ghost use Rattle.std.specs.Prelude.{false};
-ghost use Rattle.byte_unit_base.specs.BinaryReading.{IsBinaryReading, IsBinaryBytesReading};
+ghost use Rattle.byte_unit_base.specs.Reading.Binary.{IsBinaryReading, IsBinaryBytesReading};
 ghost use Rattle.byte_unit_base.specs.declared.kind.Kind.TheVariants.{Bit as InBits};
 
 use super::Bit;

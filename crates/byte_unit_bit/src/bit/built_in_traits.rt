@@ -4,8 +4,8 @@
 ghost use Rattle.std.specs.Prelude.{◌≡◌, ◌^◌, ◌<◌, ◌-◌, min, Some, OkIff, false};
 ghost use Rattle.std.specs.Fmt.{decimal};
 ghost use Rattle.byte_unit_math.specs.Bounds.{size_limit};
-ghost use Rattle.byte_unit_base.specs.SizeOrNone.{IsSizeOrError};
-ghost use Rattle.byte_unit_base.specs.SizeReading.{IsSizeReading};
+ghost use Rattle.byte_unit_base.specs.Sizes.OrNone.{IsSizeOrError};
+ghost use Rattle.byte_unit_base.specs.Reading.Results.{IsSizeReading};
 ghost use Rattle.byte_unit_base.specs.declared.kind.Kind.TheVariants.{Bit as InBits};
 
 use super::Bit;

@@ -3,7 +3,7 @@
 
 ghost use Rattle.std.specs.Prelude.{◌≡◌, ◌<◌, SomeIff};
 ghost use Rattle.byte_unit_math.specs.Bounds.{size_limit};
-ghost use Rattle.byte_unit_base.specs.SizeOrNone.{IfNonNegative, IsSizeOfUnit};
+ghost use Rattle.byte_unit_base.specs.Sizes.OrNone.{IfNonNegative, IsSizeOfUnit};
 ghost use Rattle.byte_unit_base.specs.declared.kind.Kind.TheVariants.{Bit as InBits};
 
 use super::Bit;

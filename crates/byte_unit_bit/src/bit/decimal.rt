@@ -1,9 +1,9 @@
 // Rendered from crates/byte_unit_byte/src/byte/decimal.rt by `tools/dev render bits`. Do not edit.
 //! Sizes in bits from decimals.
 
-ghost use Rattle.byte_unit_base.specs.SizeOrNone.{IsSizeOrNone, IsSizeOfDecimal};
-ghost use Rattle.byte_unit_base.specs.Kinds.{own_unit};
-ghost use Rattle.byte_unit_base.specs.LeastOfKind.{IsLeastOf};
+ghost use Rattle.byte_unit_base.specs.Sizes.OrNone.{IsSizeOrNone, IsSizeOfDecimal};
+ghost use Rattle.byte_unit_base.specs.Sizes.Kinds.{own_unit};
+ghost use Rattle.byte_unit_base.specs.Sizes.Least.{IsLeastOf};
 ghost use Rattle.byte_unit_base.specs.declared.kind.Kind.TheVariants.{Bit as InBits};
 
 use super::Bit;

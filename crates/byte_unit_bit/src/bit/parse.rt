@@ -2,8 +2,8 @@
 //! Parsing of sizes in bits.
 
 ghost use Rattle.std.specs.Prelude.{false, take};
-ghost use Rattle.byte_unit_base.specs.Line.{IsLine};
-ghost use Rattle.byte_unit_base.specs.SizeReading.{IsSizeReading, IsBytesReading};
+ghost use Rattle.byte_unit_base.specs.Reading.Line.{IsLine};
+ghost use Rattle.byte_unit_base.specs.Reading.Results.{IsSizeReading, IsBytesReading};
 ghost use Rattle.byte_unit_base.specs.declared.kind.Kind.TheVariants.{Bit as InBits};
 
 use super::Bit;

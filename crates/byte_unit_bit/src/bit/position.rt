@@ -1,7 +1,7 @@
 // Rendered from crates/byte_unit_byte/src/byte/position.rt by `tools/dev render bits`. Do not edit.
 //! Where a string that is no size in bits is wrong.
 
-ghost use Rattle.byte_unit_base.specs.ErrorPosition.{IsSizePosition};
+ghost use Rattle.byte_unit_base.specs.Errors.Position.{IsSizePosition};
 
 use super::Bit;
 use byte_unit_base::size;

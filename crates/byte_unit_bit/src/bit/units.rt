@@ -4,9 +4,9 @@
 ghost use Rattle.std.specs.Prelude.{◌≡◌, ◌*◌, ◌≤◌};
 ghost use Rattle.byte_unit_math.specs.Bounds.{scale};
 ghost use Rattle.byte_unit_math.specs.Steps.{saturating_add};
-ghost use Rattle.byte_unit_base.specs.Shape.{bits};
-ghost use Rattle.byte_unit_base.specs.Units.{shape_of};
-ghost use Rattle.byte_unit_base.specs.Kinds.{bits_in};
+ghost use Rattle.byte_unit_base.specs.Grammar.Shape.{bits};
+ghost use Rattle.byte_unit_base.specs.Grammar.Units.{shape_of};
+ghost use Rattle.byte_unit_base.specs.Sizes.Kinds.{bits_in};
 ghost use Rattle.byte_unit_choice.specs.Choice.{IsRecovered, CountsChoice, most_steps};
 ghost use Rattle.byte_unit_base.specs.declared.kind.Kind.TheVariants.{Bit as InBits};
 

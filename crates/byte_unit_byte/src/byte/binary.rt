@@ -1,6 +1,6 @@
 //! Parsing of sizes in bytes whose decimal prefixes mean binary ones.
 
-ghost use Rattle.byte_unit_base.specs.BinaryReading.{IsBinaryReading, IsBinaryBytesReading};
+ghost use Rattle.byte_unit_base.specs.Reading.Binary.{IsBinaryReading, IsBinaryBytesReading};
 ghost use Rattle.byte_unit_base.specs.declared.kind.Kind.TheVariants.{Byte as InBytes};
 
 use super::Byte;

@@ -1,8 +1,8 @@
 //! Sizes in bytes from decimals.
 
-ghost use Rattle.byte_unit_base.specs.SizeOrNone.{IsSizeOrNone, IsSizeOfDecimal};
-ghost use Rattle.byte_unit_base.specs.Kinds.{own_unit};
-ghost use Rattle.byte_unit_base.specs.LeastOfKind.{IsLeastOf};
+ghost use Rattle.byte_unit_base.specs.Sizes.OrNone.{IsSizeOrNone, IsSizeOfDecimal};
+ghost use Rattle.byte_unit_base.specs.Sizes.Kinds.{own_unit};
+ghost use Rattle.byte_unit_base.specs.Sizes.Least.{IsLeastOf};
 ghost use Rattle.byte_unit_base.specs.declared.kind.Kind.TheVariants.{Byte as InBytes};
 
 use super::Byte;

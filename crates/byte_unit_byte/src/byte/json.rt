@@ -5,8 +5,7 @@ ghost use Rattle.serde_json.specs.Data.{string};
 ghost use Rattle.serde_json.specs.Find.{as_str};
 ghost use Rattle.serde_json.specs.View.{view};
 ghost use Rattle.byte_unit_format.specs.Forms.{IsText};
-ghost use Rattle.byte_unit_base.specs.JsonReading.{ReadsString, size_errors};
-ghost use Rattle.byte_unit_base.specs.SizeReading.{IsSizeReading};
+ghost use Rattle.byte_unit_base.specs.Reading.Results.{ReadsString, size_errors, IsSizeReading};
 ghost use Rattle.byte_unit_base.specs.declared.kind.Kind.TheVariants.{Byte as InBytes};
 
 use super::Byte;

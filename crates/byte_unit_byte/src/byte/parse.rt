@@ -1,8 +1,8 @@
 //! Parsing of sizes in bytes.
 
 ghost use Rattle.std.specs.Prelude.{take};
-ghost use Rattle.byte_unit_base.specs.Line.{IsLine};
-ghost use Rattle.byte_unit_base.specs.SizeReading.{IsSizeReading, IsBytesReading};
+ghost use Rattle.byte_unit_base.specs.Reading.Line.{IsLine};
+ghost use Rattle.byte_unit_base.specs.Reading.Results.{IsSizeReading, IsBytesReading};
 ghost use Rattle.byte_unit_base.specs.declared.kind.Kind.TheVariants.{Byte as InBytes};
 
 use super::Byte;

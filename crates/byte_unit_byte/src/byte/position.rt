@@ -1,6 +1,6 @@
 //! Where a string that is no size in bytes is wrong.
 
-ghost use Rattle.byte_unit_base.specs.ErrorPosition.{IsSizePosition};
+ghost use Rattle.byte_unit_base.specs.Errors.Position.{IsSizePosition};
 
 use super::Byte;
 use byte_unit_base::size;

@@ -1,6 +1,6 @@
 use Rattle.std.proofs.Common.{length}
 use Rattle.std.specs.Fmt.{DisplaysOnOk}
-use Rattle.byte_unit_base.specs.FaultText.{others_text}
+use Rattle.byte_unit_base.specs.Errors.Text.{others_text}
 use Rattle.byte_unit_base.proofs.errors.write_others.Given as goal
 
 -- if what is written next displays the characters that are left, the whole displays all the characters

@@ -1,7 +1,7 @@
 -- The last digit is written after the digits of a sixteenth of the number.
 use Rattle.std.proofs.Common.{[], ◌∷◌, false, length, arith, ap, sym, subst, ◌∙◌}
 use Rattle.std.proofs.lemmas.Fmt.{hex_one_digit}
-use Rattle.byte_unit_base.specs.PutAfter.{IsPutAfter}
+use Rattle.byte_unit_base.specs.Errors.PutAfter.{IsPutAfter}
 use Rattle.byte_unit_base.proofs.PutTexts.{last_digit_put, length_digits_step}
 use Rattle.byte_unit_base.proofs.quoted.+put_hexadecimal.Goals as goal
 

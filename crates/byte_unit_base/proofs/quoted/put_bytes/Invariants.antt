@@ -1,7 +1,7 @@
 -- The bytes so far are written, each as it is shown.
 use Rattle.std.proofs.Common.{take, flat_map}
-use Rattle.byte_unit_base.specs.PutAfter.{IsPutAfter}
-use Rattle.byte_unit_base.specs.Quoted.{escape_byte}
+use Rattle.byte_unit_base.specs.Errors.PutAfter.{IsPutAfter}
+use Rattle.byte_unit_base.specs.Errors.Quoted.{escape_byte}
 use Rattle.byte_unit_base.proofs.quoted.put_bytes.Given as goal
 
 -- the bytes before the index are written, escaped

@@ -3,8 +3,8 @@ use Rattle.std.proofs.Common.{◌≡◌, ℕ, List, ◌+◌, ◌<◌, ◌≤◌,
 use Rattle.std.proofs.lemmas.Iterator.{YieldsList-from_chars}
 use Rattle.std.proofs.lemmas.Iterator.Consumers.{YieldsList-end, YieldsList-so_far, YieldsList-turn}
 use Rattle.std.proofs.lemmas.List.Folds.{length-flat_map-take}
-use Rattle.byte_unit_base.specs.PutAfter.{IsPutAfter}
-use Rattle.byte_unit_base.specs.Quoted.{escape_char}
+use Rattle.byte_unit_base.specs.Errors.PutAfter.{IsPutAfter}
+use Rattle.byte_unit_base.specs.Errors.Quoted.{escape_char}
 use Rattle.byte_unit_base.proofs.quoted.put_chars.Goals as goal
 
 -- there is room for the next character after those so far

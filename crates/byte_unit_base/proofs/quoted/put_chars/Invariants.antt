@@ -1,7 +1,7 @@
 -- The characters so far are written, each as it is shown.
 use Rattle.std.proofs.Common.{flat_map}
-use Rattle.byte_unit_base.specs.PutAfter.{IsPutAfter}
-use Rattle.byte_unit_base.specs.Quoted.{escape_char}
+use Rattle.byte_unit_base.specs.Errors.PutAfter.{IsPutAfter}
+use Rattle.byte_unit_base.specs.Errors.Quoted.{escape_char}
 use Rattle.byte_unit_base.proofs.quoted.put_chars.Given as goal
 
 -- the characters that the loop has yielded are written, escaped

@@ -3,8 +3,8 @@ use Rattle.std.proofs.Common.{◌≡◌, ℕ, Bool, List, if◌then◌else◌, l
 use Rattle.std.specs.Str.{is_utf8}
 use Rattle.std.proofs.lemmas.Bool.{false_from_ne_true}
 use Rattle.std.proofs.lemmas.Str.{is_utf8-from_IsUtf8, IsUtf8-from_is_utf8}
-use Rattle.byte_unit_base.specs.PutAfter.{IsPutAfter}
-use Rattle.byte_unit_base.specs.Quoted.{escape, escape_byte, escape_char}
+use Rattle.byte_unit_base.specs.Errors.PutAfter.{IsPutAfter}
+use Rattle.byte_unit_base.specs.Errors.Quoted.{escape, escape_byte, escape_char}
 use Rattle.byte_unit_base.proofs.quoted.put_escaped.Goals as goal
 
 -- bytes escaped by their characters, or one by one

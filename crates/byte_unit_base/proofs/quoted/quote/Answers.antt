@@ -1,6 +1,6 @@
 -- The bytes that are quoted fit into the buffer, with two dots, and what is written is UTF-8.
 use Rattle.std.proofs.Common.{◌≡◌, [], ◌++◌, length, take, nat_lt, if◌then◌else◌, codes, arith, sym, ap, subst, ◌∙◌, IsUtf8, Result, Ok, Err, IsOk, MatchResult, rules}
-use Rattle.byte_unit_base.specs.Quoted.{escape, quote}
+use Rattle.byte_unit_base.specs.Errors.Quoted.{escape, quote}
 use Rattle.byte_unit_base.proofs.QuotedTexts.{escape_take_length, quote_utf8}
 use Rattle.byte_unit_base.proofs.quoted.quote.Goals as goal
 

@@ -1,5 +1,5 @@
 use Rattle.std.proofs.Common.{length, ◌-◌, ◌≡◌, ◌≤◌, take, replicate}
-use Rattle.byte_unit_base.specs.SizeText.{space}
+use Rattle.byte_unit_base.specs.Grammar.SizeText.{space}
 use Rattle.byte_unit_base.proofs.read.leading_spaces.Given as goal
 
 -- the first `count` bytes are spaces

@@ -1,8 +1,8 @@
 -- The number and unit of the trimmed string, or the error of the rest of it, where the parser stops.
 use Rattle.std.proofs.Common.{Ok, ap, refl, subst, ◌∙◌, chars, IsUtf8}
-use Rattle.byte_unit_base.specs.Units.{shape_of}
-use Rattle.byte_unit_base.specs.ErrorPosition.{next_char}
-use Rattle.byte_unit_base.specs.ParserEnds.{IsStopAt}
+use Rattle.byte_unit_base.specs.Grammar.Units.{shape_of}
+use Rattle.byte_unit_base.specs.Errors.Position.{next_char}
+use Rattle.byte_unit_base.specs.Reading.Ends.{IsStopAt}
 use Rattle.byte_unit_base.proofs.Positions.{stop_in_string}
 use Rattle.byte_unit_base.proofs.SizeAscii.{size_of_chars}
 use Rattle.byte_unit_base.proofs.SizeReads.{number_reading}

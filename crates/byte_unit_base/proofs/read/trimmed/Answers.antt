@@ -1,6 +1,6 @@
 -- A string with visible characters at both ends has nothing to trim.
 use Rattle.std.proofs.Common.{ap, subst, sym, ◌∙◌, chars}
-use Rattle.byte_unit_base.specs.ParserEnds.{HasVisibleEnds}
+use Rattle.byte_unit_base.specs.Reading.Ends.{HasVisibleEnds}
 use Rattle.byte_unit_base.proofs.Trim.{chars-trim, trim_visible}
 use Rattle.byte_unit_base.proofs.read.trimmed.Goals as goal
 

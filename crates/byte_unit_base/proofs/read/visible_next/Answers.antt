@@ -1,7 +1,7 @@
 -- The first of the bytes there is the character.
 use Rattle.std.proofs.Common.{ap, ◌∙◌, chars}
 use Rattle.std.proofs.lemmas.List.{take_rest}
-use Rattle.byte_unit_base.specs.ErrorPosition.{next_char}
+use Rattle.byte_unit_base.specs.Errors.Position.{next_char}
 use Rattle.byte_unit_base.proofs.read.visible_next.Goals as goal
 
 pub returns-then-is_ascii_from : goal.returns-then-is_ascii_from

@@ -1,8 +1,8 @@
 -- The result is that of the number and the unit of the string, or the error where the parser stops in it.
 use Rattle.std.proofs.Common.{subst, sym}
-use Rattle.byte_unit_base.specs.ErrorPosition.{IsSizeLocation}
-use Rattle.byte_unit_base.specs.Errors.{size_fault}
-use Rattle.byte_unit_base.specs.Outcome.{IsNumberOrStop}
+use Rattle.byte_unit_base.specs.Errors.Position.{IsSizeLocation}
+use Rattle.byte_unit_base.specs.Errors.Meaning.{size_fault}
+use Rattle.byte_unit_base.specs.Reading.Ends.{IsNumberOrStop}
 use Rattle.byte_unit_base.proofs.Positions.{location_of}
 use Rattle.byte_unit_base.proofs.SizeOfText.{reading_of_fault}
 use Rattle.byte_unit_base.proofs.size.explain.Goals as goal

@@ -2,8 +2,8 @@
 -- the bits are.
 use Rattle.std.proofs.Common.{arith, rules}
 use Rattle.byte_unit_base.proofs.Rounding.{least_holding, least_above, least_below}
-use Rattle.byte_unit_base.specs.Version.{current}
-use Rattle.byte_unit_base.specs.Units.{shape_of}
+use Rattle.byte_unit_base.specs.Grammar.Version.{current}
+use Rattle.byte_unit_base.specs.Grammar.Units.{shape_of}
 use Rattle.byte_unit_base.proofs.size.from_decimal.Goals as goal
 
 pub returns-clause-size : goal.returns-clause-size

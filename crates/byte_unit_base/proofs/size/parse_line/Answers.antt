@@ -1,8 +1,8 @@
 -- The first bytes are a line with which the bytes begin, and its number and unit are those of the string. If it is
 -- visible ASCII, the parser stops in the string where it stops in the line.
 use Rattle.std.proofs.Common.{take}
-use Rattle.byte_unit_base.specs.Kinds.{flags_for}
-use Rattle.byte_unit_base.specs.ParserEnds.{IsStopAt}
+use Rattle.byte_unit_base.specs.Sizes.Kinds.{flags_for}
+use Rattle.byte_unit_base.specs.Reading.Ends.{IsStopAt}
 use Rattle.byte_unit_base.proofs.Lines.{first_line}
 use Rattle.byte_unit_base.proofs.Positions.{stop_in_visible}
 use Rattle.byte_unit_base.proofs.SizeOfText.{bytes_number, reading_of_fault}

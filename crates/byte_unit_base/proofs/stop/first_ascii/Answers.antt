@@ -1,7 +1,7 @@
 -- The characters of ASCII bytes are these bytes.
 use Rattle.std.proofs.Common.{◌≡◌, ℕ, ◌<◌, ◌≤◌, List, [], ◌∷◌, Some, None, length, slice_index, refl, sym, ap, ◌∙◌, arith}
 use Rattle.std.proofs.lemmas.Str.{chars-IsAscii}
-use Rattle.byte_unit_base.specs.ErrorPosition.{next_char}
+use Rattle.byte_unit_base.specs.Errors.Position.{next_char}
 use Rattle.byte_unit_base.proofs.stop.first_ascii.Goals as goal
 
 -- an empty list has no first character

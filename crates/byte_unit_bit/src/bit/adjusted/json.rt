@@ -7,7 +7,7 @@ ghost use Rattle.serde_json.specs.Find.{as_str};
 ghost use Rattle.serde_json.specs.View.{view};
 ghost use Rattle.byte_unit_choice.specs.AdjustedSize.{IsAdjustedReading};
 ghost use Rattle.byte_unit_format.specs.AdjustedString.{IsAdjustedString};
-ghost use Rattle.byte_unit_base.specs.JsonReading.{ReadsString, size_errors};
+ghost use Rattle.byte_unit_base.specs.Reading.Results.{ReadsString, size_errors};
 ghost use Rattle.byte_unit_base.specs.declared.kind.Kind.TheVariants.{Bit as InBits};
 
 use super::AdjustedBit;

@@ -1,7 +1,7 @@
 -- The message is that of the error where the parser stops.
 use Rattle.std.proofs.Common.{Some, Ok, Err, refl, subst, sym}
-use Rattle.byte_unit_base.specs.ErrorPosition.{IsUnitLocation}
-use Rattle.byte_unit_base.specs.Outcome.{IsUnitOrStop}
+use Rattle.byte_unit_base.specs.Errors.Position.{IsUnitLocation}
+use Rattle.byte_unit_base.specs.Reading.Ends.{IsUnitOrStop}
 use Rattle.byte_unit_c.proofs.explain.explain_unit_as.Goals as goal
 
 -- the string spells a unit, so nothing is written

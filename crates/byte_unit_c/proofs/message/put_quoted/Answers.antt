@@ -1,6 +1,6 @@
 -- Each part is written before the one after it.
 use Rattle.std.proofs.Common.{◌∷◌, ◌++◌, ap, sym, ◌∙◌, arith, append_assoc, drop, codes}
-use Rattle.byte_unit_base.specs.ErrorPosition.{location_words}
+use Rattle.byte_unit_base.specs.Errors.Position.{location_words}
 use Rattle.byte_unit_c.proofs.Escapes.{quoted_length}
 use Rattle.byte_unit_c.proofs.message.put_quoted.Goals as goal
 

@@ -1,6 +1,6 @@
 -- The result is that of the number and the unit of the string, or the error where the parser stops in it.
 use Rattle.std.proofs.Common.{subst}
-use Rattle.byte_unit_base.specs.Outcome.{IsNumberOrStop}
+use Rattle.byte_unit_base.specs.Reading.Ends.{IsNumberOrStop}
 use Rattle.byte_unit_c.proofs.Stops.{stop_parsed}
 use Rattle.byte_unit_c.proofs.parse.parse_as.Goals as goal
 

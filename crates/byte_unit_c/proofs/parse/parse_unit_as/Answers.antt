@@ -1,6 +1,6 @@
 -- The unit of the string, or the details of its error and its position, are what is written.
 use Rattle.std.proofs.Common.{Some, Ok, Err, refl, subst}
-use Rattle.byte_unit_base.specs.Outcome.{IsUnitOrStop}
+use Rattle.byte_unit_base.specs.Reading.Ends.{IsUnitOrStop}
 use Rattle.byte_unit_c.proofs.parse.parse_unit_as.Goals as goal
 
 -- the string spells a unit, whose code is written

@@ -1,7 +1,7 @@
 -- The size of the number and the unit, or the error that it is too large, is what the string is read as.
 use Rattle.std.proofs.Common.{Some, Ok, Err, refl, sym, ap, subst, ◌∙◌}
-use Rattle.byte_unit_base.specs.Errors.{size_fault}
-use Rattle.byte_unit_base.specs.ErrorPosition.{IsSizePosition}
+use Rattle.byte_unit_base.specs.Errors.Meaning.{size_fault}
+use Rattle.byte_unit_base.specs.Errors.Position.{IsSizePosition}
 use Rattle.byte_unit_c.specs.Error.{code_of, IsErrorWritten}
 use Rattle.byte_unit_c.proofs.parse.write_size.Goals as goal
 

@@ -1,6 +1,6 @@
 -- The error of the number, or of the unit, is what is written.
 use Rattle.std.proofs.Common.{sym, ap, ◌∙◌, refl}
-use Rattle.byte_unit_base.specs.ParserEnds.{stop_fault}
+use Rattle.byte_unit_base.specs.Reading.Ends.{stop_fault}
 use Rattle.byte_unit_base.specs.declared.errors.ParseError.TheVariants.{Value, Unit as UnitError}
 use Rattle.byte_unit_c.proofs.parse.write_stop.Goals as goal
 

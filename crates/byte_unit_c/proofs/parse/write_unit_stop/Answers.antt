@@ -1,7 +1,7 @@
 -- The details of the error where the parser of a unit stops are what is written.
 use Rattle.std.proofs.Common.{sym, ap, ◌∙◌}
-use Rattle.byte_unit_base.specs.Errors.{unit_fault}
-use Rattle.byte_unit_base.specs.Expected.{named_in}
+use Rattle.byte_unit_base.specs.Errors.Meaning.{unit_fault}
+use Rattle.byte_unit_base.specs.Errors.Expected.{named_in}
 use Rattle.byte_unit_c.specs.Error.{expected_bytes, IsErrorOf}
 use Rattle.byte_unit_c.proofs.parse.write_unit_stop.Goals as goal
 

@@ -1,6 +1,6 @@
 -- The position that is written is that of the string.
 use Rattle.std.proofs.Common.{subst}
-use Rattle.byte_unit_base.specs.ErrorPosition.{IsSizePosition}
+use Rattle.byte_unit_base.specs.Errors.Position.{IsSizePosition}
 use Rattle.byte_unit_c.proofs.position.byte_unit_error_position.Goals as goal
 
 -- the string has the bytes of the argument (the first case of `from_utf8`), so its position is theirs

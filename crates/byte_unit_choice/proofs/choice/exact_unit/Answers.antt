@@ -1,8 +1,8 @@
 -- At precision 0 the chosen number is whole, so its whole part times the unit is the size.
 use Rattle.std.proofs.Common.{◌*◌, ap, ◌∙◌}
-use Rattle.byte_unit_base.specs.Shape.{bits}
-use Rattle.byte_unit_base.specs.Units.{shape_of}
-use Rattle.byte_unit_base.specs.Kinds.{bits_in}
+use Rattle.byte_unit_base.specs.Grammar.Shape.{bits}
+use Rattle.byte_unit_base.specs.Grammar.Units.{shape_of}
+use Rattle.byte_unit_base.specs.Sizes.Kinds.{bits_in}
 use Rattle.byte_unit_choice.proofs.Quotients.{whole_number}
 use Rattle.byte_unit_choice.proofs.Choosing.{some_bits, exact_where_recovered}
 use Rattle.byte_unit_choice.proofs.choice.exact_unit.Goals as goal

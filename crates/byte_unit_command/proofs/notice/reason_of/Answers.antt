@@ -1,6 +1,6 @@
 -- A field that the parser accepts is a size.
 use Rattle.std.proofs.Common.{Some, inl, inr, ap, sym, ◌∙◌, subst}
-use Rattle.byte_unit.specs.SizeReading.{IsBytesReadingAs, without_location}
+use Rattle.byte_unit.specs.Reading.Results.{IsBytesReadingAs, without_location}
 use Rattle.byte_unit_base.proofs.SizeOrFault.{accepted_or_refused}
 use Rattle.byte_unit_command.specs.Field.{IsNoSizeBy}
 use Rattle.byte_unit_command.proofs.notice.reason_of.Goals as goal

@@ -2,7 +2,7 @@
 use Rattle.std.proofs.Common.{◌*◌, refl}
 use Rattle.byte_unit_math.specs.Numeral.{numeral, text_of}
 use Rattle.byte_unit_math.specs.ShortExpansion.{finite_of}
-use Rattle.byte_unit_base.specs.Kinds.{bits_in}
+use Rattle.byte_unit_base.specs.Sizes.Kinds.{bits_in}
 use Rattle.byte_unit_format.proofs.AdjustedForms.{adjusted_by_rounding, scaled_text}
 use Rattle.byte_unit_format.proofs.adjusted.short_parts.Goals as goal
 

@@ -1,7 +1,7 @@
 -- The larger of the two prefixes has the unit, and the size in it is a number of thousandths.
 use Rattle.std.proofs.Common.{◌*◌, false, arith, refl}
 use Rattle.byte_unit_math.specs.Bounds.{scale}
-use Rattle.byte_unit_base.specs.Kinds.{own_unit}
+use Rattle.byte_unit_base.specs.Sizes.Kinds.{own_unit}
 use Rattle.byte_unit_choice.proofs.Choosing.{own_number}
 use Rattle.byte_unit_format.proofs.UnitFraction.{whole_below}
 use Rattle.byte_unit_format.proofs.FewPlaces.{recovered_own, recovered_decimal, recovered_binary}

@@ -1,8 +1,8 @@
 -- The digits tell the largest decimal prefix, and the whole part and the thousandths in it.
 use Rattle.std.proofs.Common.{ℕ, ◌*◌, ◌/◌, ◌^◌, ◌≤◌, false, refl, arith}
 use Rattle.byte_unit_math.specs.Bounds.{scale}
-use Rattle.byte_unit_base.specs.Kinds.{counts_bits, own_unit}
-use Rattle.byte_unit_base.specs.Shape.{shape}
+use Rattle.byte_unit_base.specs.Sizes.Kinds.{counts_bits, own_unit}
+use Rattle.byte_unit_base.specs.Grammar.Shape.{shape}
 use Rattle.byte_unit_choice.proofs.Choosing.{own_number}
 use Rattle.byte_unit_format.specs.FewPlaces.{FitsPrefix}
 use Rattle.byte_unit_format.proofs.TextParts.{front_is}

@@ -1,7 +1,7 @@
 -- What is appended in each case: that the line is not UTF-8, the words of the error, or the size with its two texts.
 use Rattle.std.proofs.Common.{◌≡◌, false, ap, sym, ◌∙◌, arith, cond, eqb, not, take}
 use Rattle.std.proofs.lemmas.Bool.{eq-eqb, ne_eqb}
-use Rattle.byte_unit.specs.ParseSpec.{parse_spec}
+use Rattle.byte_unit.specs.Reading.ParseSpec.{parse_spec}
 use Rattle.byte_unit.specs.declared.Kind.{Kind}
 use Rattle.byte_unit.specs.declared.Kind.TheVariants.{Byte, Bit}
 use Rattle.byte_unit_lines.proofs.Messages.{adds_size, adds_error, adds_not_text}

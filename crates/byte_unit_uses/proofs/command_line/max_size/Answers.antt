@@ -3,7 +3,7 @@
 use Rattle.std.proofs.Common.{◌≡◌, ◌∙◌, rules, ap, ap₂, inl, inr, subst, sym}
 use Rattle.clap.specs.Walk.{texts}
 use Rattle.clap.specs.Words.{app_of, takes, with_rule}
-use Rattle.byte_unit.specs.Errors.{size_fault}
+use Rattle.byte_unit.specs.Errors.Meaning.{size_fault}
 use Rattle.byte_unit_uses.specs.CommandLine.{IsOption, IsOptionError, copy_app, option_value}
 use Rattle.byte_unit_uses.proofs.CommandLine.{passed-on, value-is}
 use Rattle.byte_unit_uses.proofs.command_line.max_size.Goals as goal

@@ -1,7 +1,7 @@
 -- The line begins with a whole part, or with a whole part, a point and a fraction, or stops where a digit is missing or
 -- is one too many.
 use Rattle.std.proofs.Common.{◌≢◌, ◌<◌, length, get_or, arith}
-use Rattle.byte_unit_base.specs.Number.{point}
+use Rattle.byte_unit_base.specs.Grammar.Number.{point}
 use Rattle.byte_unit_base.proofs.NumberEnds.{leading_whole, leading_precise, stops_at_start, stops_after_point}
 use Rattle.byte_unit_base.proofs.NumberEnds.{stops_in_whole, stops_in_fraction, fraction_below}
 use Rattle.byte_unit_base.proofs.read.digits.read_number.Goals.{then-end-line-via-then-end-line}

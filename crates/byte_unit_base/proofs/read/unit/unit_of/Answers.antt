@@ -1,9 +1,9 @@
 -- The table has the unit of each position and kind.
 use Rattle.std.proofs.Common.{◌≡◌, ℕ, suc, ◌+◌, ◌*◌, ◌≤◌, Bool, true, false, [], get_or, refl, arith}
 use mir.Val.{bool_byte}
-use Rattle.byte_unit_base.specs.Units.{shape_of}
-use Rattle.byte_unit_base.specs.UnitScan.{multiple_shape}
-use Rattle.byte_unit_base.specs.UnitWord.{multiple_of}
+use Rattle.byte_unit_base.specs.Grammar.Units.{shape_of}
+use Rattle.byte_unit_base.specs.Reading.Machines.{multiple_shape}
+use Rattle.byte_unit_base.specs.Reading.Ends.{multiple_of}
 use Rattle.byte_unit_base.specs.declared.unit.tables.TheConstants.{BY_POWER}
 use Rattle.byte_unit_base.specs.declared.unit.Unit.TheVariants.{Bit as UnitBit}
 use Rattle.byte_unit_base.proofs.read.unit.unit_of.Goals as goal

@@ -1,8 +1,8 @@
 -- The table has the bits of each unit at its index.
 use Rattle.std.proofs.Common.{◌≡◌, slice_index_or, refl}
 use denote.Enum.Declared.{tag_of}
-use Rattle.byte_unit_base.specs.Shape.{bits}
-use Rattle.byte_unit_base.specs.Units.{shape_of}
+use Rattle.byte_unit_base.specs.Grammar.Shape.{bits}
+use Rattle.byte_unit_base.specs.Grammar.Units.{shape_of}
 use Rattle.byte_unit_base.specs.contracts.unit.Unit.{the_type}
 use Rattle.byte_unit_base.specs.declared.unit.tables.TheConstants.{UNIT_BITS}
 use Rattle.byte_unit_base.specs.declared.unit.Unit.{Unit as UnitName}

@@ -1,11 +1,11 @@
 -- The unit that the trimmed string spells, or where the parser stops in it.
 use Rattle.std.proofs.Common.{Ok, ap, sym, subst, ◌+◌, ◌∙◌, chars, IsUtf8}
-use Rattle.byte_unit_base.specs.Version.{current}
-use Rattle.byte_unit_base.specs.Spelling.{Spells}
-use Rattle.byte_unit_base.specs.Units.{shape_of}
-use Rattle.byte_unit_base.specs.UnitScan.{start}
-use Rattle.byte_unit_base.specs.ErrorPosition.{next_char}
-use Rattle.byte_unit_base.specs.ParserEnds.{IsUnitStop}
+use Rattle.byte_unit_base.specs.Grammar.Version.{current}
+use Rattle.byte_unit_base.specs.Grammar.Spelling.{Spells}
+use Rattle.byte_unit_base.specs.Grammar.Units.{shape_of}
+use Rattle.byte_unit_base.specs.Reading.Machines.{start}
+use Rattle.byte_unit_base.specs.Errors.Position.{next_char}
+use Rattle.byte_unit_base.specs.Reading.Ends.{IsUnitStop}
 use Rattle.byte_unit_base.proofs.Positions.{unit_stop_in_string}
 use Rattle.byte_unit_base.proofs.SizeRest.{boundary_at}
 use Rattle.byte_unit_base.proofs.Trim.{chars-trim}

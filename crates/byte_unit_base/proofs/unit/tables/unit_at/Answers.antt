@@ -1,7 +1,7 @@
 -- Reading the table at an index below its length is the unit with that index.
 use Rattle.std.proofs.Common.{arith, sym}
 use Rattle.std.proofs.lemmas.Option.{slice_get-get_or, slice_get_past}
-use Rattle.byte_unit_base.specs.UnitLists.{units}
+use Rattle.byte_unit_base.specs.Grammar.Units.{units}
 use Rattle.byte_unit_base.proofs.unit.tables.unit_at.Goals as goal
 
 -- there are 38 units: 36 with a prefix, and `Bit` and `B`

@@ -1,6 +1,6 @@
 -- Each error of a number has its code and its details.
 use Rattle.std.proofs.Common.{◌≡◌, sym, subst, refl}
-use Rattle.byte_unit_base.specs.Errors.{value_fault}
+use Rattle.byte_unit_base.specs.Errors.Meaning.{value_fault}
 use Rattle.byte_unit_base.specs.declared.errors.ValueParseError.{ValueParseError}
 use Rattle.byte_unit_c.specs.declared.error.Error.{Error}
 use Rattle.byte_unit_c.specs.Error.{IsErrorOf}
