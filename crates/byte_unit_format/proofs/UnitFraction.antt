@@ -24,8 +24,8 @@ use Rattle.byte_unit_format.specs.Forms.{IsSizeForm}
 use Rattle.byte_unit_format.specs.NamedSpecs.{alternate_spec}
 use Rattle.byte_unit_format.specs.UnitFraction.{thousandths_text, thousandths_of, unit_of}
 use Rattle.byte_unit_format.specs.UnitFraction.{unit_fraction_text, IsProperFraction, IsSplit}
-use Rattle.byte_unit_format.specs.declared.thousandths.UnitFraction.{UnitFraction}
-use Rattle.byte_unit_format.specs.declared.thousandths.UnitFraction.TheVariants.{Own, Eighths, Thousandths}
+use Rattle.byte_unit_format.specs.declared.form.split.UnitFraction.{UnitFraction}
+use Rattle.byte_unit_format.specs.declared.form.split.UnitFraction.TheVariants.{Own, Eighths, Thousandths}
 
 -- The text of whole units, and then that of thousandths, is the text of both as one decimal without trailing zeros.
 text_of_thousandths : (whole thousandths : ℕ) → thousandths < 1000

@@ -8,8 +8,8 @@ use Rattle.byte_unit_base.specs.Sizes.Kinds.{bits_in, counts_bits, own_unit}
 use Rattle.byte_unit_base.specs.Grammar.Shape.{Shape, bits, shape}
 use Rattle.byte_unit_base.specs.Grammar.Version.{unit_name_in, current}
 use Rattle.byte_unit_base.specs.declared.kind.Kind.{Kind}
-use Rattle.byte_unit_format.specs.declared.thousandths.UnitFraction.{UnitFraction}
-use Rattle.byte_unit_format.specs.declared.thousandths.UnitFraction.TheVariants.{Own, Eighths, Thousandths}
+use Rattle.byte_unit_format.specs.declared.form.split.UnitFraction.{UnitFraction}
+use Rattle.byte_unit_format.specs.declared.form.split.UnitFraction.TheVariants.{Own, Eighths, Thousandths}
 
 -- The point and the digits of thousandths without trailing zeros, or nothing if there are no thousandths.
 abbrev pub thousandths_text : ℕ → List ℕ

@@ -5,23 +5,20 @@
 #![tactic(auto)]
 
 mod adjusted;
-mod alternate;
-mod forms;
+mod form;
 pub mod laws;
 mod layout;
 mod parts;
 mod plain;
 mod spec;
-mod thousandths;
-mod with_digits;
 
 pub use adjusted::{
     adjusted_len, append_adjusted, display_adjusted, number_in_unit, write_adjusted,
 };
-pub use alternate::NARROW_TEXT;
-pub use forms::{append_text, binary_spec, text_len, write_text};
+pub use form::put::NARROW_TEXT;
+pub use form::with_digits::write_with_digits;
+pub use form::{append_text, binary_spec, text_len, write_text};
 pub use layout::{append_layout, layout_len, write_layout};
 pub use parts::put;
 pub use plain::{append_plain, plain_len, write_plain};
 pub use spec::{Align, FormatSpec, Sign};
-pub use with_digits::write_with_digits;

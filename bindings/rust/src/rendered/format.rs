@@ -6,20 +6,17 @@
 //! Sizes in bytes and in bits share these functions, which take their `Kind`.
 
 mod adjusted;
-mod alternate;
-mod forms;
+mod form;
 mod layout;
 mod parts;
 mod plain;
 mod spec;
-mod thousandths;
-mod with_digits;
 
 pub use adjusted::{adjusted_len, display_adjusted, number_in_unit, write_adjusted};
-pub use alternate::NARROW_TEXT;
-pub use forms::{binary_spec, text_len, write_text};
+pub use form::put::NARROW_TEXT;
+pub use form::with_digits::write_with_digits;
+pub use form::{binary_spec, text_len, write_text};
 pub use layout::{layout_len, write_layout};
 pub use parts::put;
 pub use plain::{plain_len, write_plain};
 pub use spec::{Align, FormatSpec, Sign};
-pub use with_digits::write_with_digits;
