@@ -13,7 +13,7 @@ use Rattle.byte_unit_command.specs.Sums.{Counts}
 use Rattle.byte_unit_command.specs.declared.error.EndReason.{EndReason}
 use Rattle.byte_unit_command.proofs.Results.{error-passed}
 use Rattle.byte_unit_command.proofs.Tallies.{Counts-append, Counts-none}
-use Rattle.byte_unit_stream.specs.Steps.{Adds, Progress}
+use Rattle.byte_unit_stream.specs.RecordSteps.{Adds, Progress}
 use Rattle.byte_unit_stream.specs.declared.run.RunError.{RunError}
 use Rattle.byte_unit_stream.specs.declared.run.RunError.TheVariants.{Memory}
 

@@ -15,7 +15,7 @@ use Rattle.byte_unit_command.specs.CallEnds.{AddsFields, Aborts, Appends, IsEarl
 use Rattle.byte_unit_command.specs.Ranges.{IsChosenField}
 use Rattle.byte_unit_command.specs.State.{Context, RunState}
 use Rattle.byte_unit_stream.specs.Records.{split_by}
-use Rattle.byte_unit_stream.specs.Steps.{Progress}
+use Rattle.byte_unit_stream.specs.RecordSteps.{Progress}
 use Rattle.byte_unit_command.specs.declared.error.EndReason.{EndReason}
 use Rattle.byte_unit_command.specs.declared.options.Options.{Options}
 use Rattle.byte_unit_command.specs.declared.options.Separator.{Separator}

@@ -9,7 +9,7 @@ use Rattle.byte_unit_command.specs.Sums.{Counts}
 use Rattle.byte_unit_command.specs.declared.error.EndReason.{EndReason}
 use Rattle.byte_unit_command.specs.declared.error.EndReason.TheVariants.{Rejected, Total}
 use Rattle.byte_unit_command.specs.declared.options.Invalid.TheVariants.{Abort}
-use Rattle.byte_unit_stream.specs.Steps.{Relation}
+use Rattle.byte_unit_stream.specs.RecordSteps.{Relation}
 
 -- what is written for a record, with the end byte of the output after it; the messages about its fields; and the state
 -- after it, with what is found in the fields counted

@@ -6,7 +6,7 @@ ghost use Rattle.byte_unit_command.specs.Fields.{fields_of};
 ghost use Rattle.byte_unit_command.specs.Ranges.{AreApart, AreRangesFrom, GoesTo, InRange, IsChosenField};
 ghost use Rattle.byte_unit_command.specs.CallEnds.{Ends, IsEarlyAt, Keeps, TellsLimits, state_of};
 ghost use Rattle.byte_unit_command.specs.Converted.{converting};
-ghost use Rattle.byte_unit_stream.specs.Steps.{Adds};
+ghost use Rattle.byte_unit_stream.specs.RecordSteps.{Adds};
 ghost use Rattle.byte_unit_stream.specs.declared.run.RunError.{RunError};
 
 use crate::blanks::{between, columns_in, end_of_first, gap_of};

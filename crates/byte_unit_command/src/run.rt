@@ -15,7 +15,7 @@ use crate::tally::{TOTAL_LIMIT, Tally};
 use crate::text::{DIGITS, add_in_width};
 use byte_unit_format::NARROW_TEXT;
 use byte_unit_math::EXPANSION_PLACES;
-use byte_unit_stream::run::{Steps, run_steps};
+use byte_unit_stream::run::{RecordSteps, run_steps};
 use std::alloc::{Allocator, Global};
 use std::io::{Read, Write};
 
@@ -139,7 +139,7 @@ impl<'a, A: Allocator + Copy> RunBuffers<'a, A> {
     }
 }
 
-impl<'a, A: Allocator> Steps for Converter<'a, A> {
+impl<'a, A: Allocator> RecordSteps for Converter<'a, A> {
     ghost use Rattle.byte_unit_command.specs.CallEnds.{state_of};
     ghost use Rattle.byte_unit_command.specs.Converted.{converting};
     ghost use Rattle.byte_unit_command.specs.State.{RunState};

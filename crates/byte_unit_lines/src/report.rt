@@ -9,7 +9,7 @@ ghost use Rattle.byte_unit_stream.specs.declared.run.RunError.{RunError};
 use crate::laws::each_line_has_an_answer;
 use crate::line::add_answer;
 use byte_unit::Kind;
-use byte_unit_stream::run::{self, Steps, run_steps};
+use byte_unit_stream::run::{self, RecordSteps, run_steps};
 use byte_unit_stream::{Reading, Writing};
 use std::alloc::{Allocator, Global};
 use std::convert::Infallible;
@@ -33,7 +33,7 @@ pub(crate) struct Answers<A: Allocator> {
     pub(crate) waiting: Vec<u8, A>,
 }
 
-impl<A: Allocator> Steps for Answers<A> {
+impl<A: Allocator> RecordSteps for Answers<A> {
     ghost use Rattle.std.specs.Prelude.{[]};
     ghost use Rattle.byte_unit_lines.specs.Answer.{Kind};
     ghost use Rattle.byte_unit_lines.specs.Answered.{answering};

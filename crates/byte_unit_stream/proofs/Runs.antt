@@ -6,13 +6,13 @@ use Rattle.byte_unit_stream.specs.Beginnings.{IsBeginningOf}
 use Rattle.byte_unit_stream.specs.Chunks.{ended_records, begun_record, nonempty_record}
 use Rattle.byte_unit_stream.specs.Records.{records_of, finished_records}
 use Rattle.byte_unit_stream.specs.Runs.{IsEnd, IsLeft}
-use Rattle.byte_unit_stream.specs.Steps.{AreConverted, AreSteps, IsAll, IsFirst, IsStep, IsStopped, Progress, Relation}
-use Rattle.byte_unit_stream.specs.Steps.{start_at}
+use Rattle.byte_unit_stream.specs.RecordSteps.{AreConverted, AreSteps, IsAll, IsFirst, IsStep, IsStopped, Progress}
+use Rattle.byte_unit_stream.specs.RecordSteps.{Relation, start_at}
 use Rattle.byte_unit_stream.specs.declared.run.RunError.{RunError}
 use Rattle.byte_unit_stream.specs.declared.run.RunError.TheVariants.{Memory, Read, Write, Ended}
 use Rattle.byte_unit_stream.proofs.Beginnings.{IsBeginningOf-after}
 use Rattle.byte_unit_stream.proofs.ChunkRecords.{finished_records-piece, begun_record-piece, records_of-begun}
-use Rattle.byte_unit_stream.proofs.Steps.{AreConverted-failed, AreConverted-then, IsFirst-converted, behind}
+use Rattle.byte_unit_stream.proofs.RecordSteps.{AreConverted-failed, AreConverted-then, IsFirst-converted, behind}
 
 -- between two reads: the finished records of what was read are converted, and the rest is the unfinished record
 pub record IsServed {S E : Type 0} (relation : Relation S E) (end : ℕ) (start : S) (read written messages part : List ℕ)

@@ -2,7 +2,7 @@
 use Rattle.std.specs.Prelude.{◌≡◌, ◌⊎◌, ⊤, IsTrue, Bool, false, ℕ, List, [], ◌++◌, Option, Result, Ok, Err}
 use Rattle.byte_unit_stream.specs.Beginnings.{IsBeginningOf}
 use Rattle.byte_unit_stream.specs.Records.{records_of, finished_records}
-use Rattle.byte_unit_stream.specs.Steps.{AreSteps, IsAll, IsFirst, IsStopped, Progress, Relation, start_at}
+use Rattle.byte_unit_stream.specs.RecordSteps.{AreSteps, IsAll, IsFirst, IsStopped, Progress, Relation, start_at}
 use Rattle.byte_unit_stream.specs.Streams.{HasRead, HasWritten, writing_failed}
 use Rattle.byte_unit_stream.specs.declared.reader.Reading.{Reading}
 use Rattle.byte_unit_stream.specs.declared.run.RunError.{RunError}

@@ -13,7 +13,7 @@ use crate::rendered::command::options::{Form, Invalid, Options};
 use crate::rendered::command::streams::Streams;
 use crate::rendered::command::tally::{TOTAL_LIMIT, Tally};
 use crate::rendered::command::text::{DIGITS, add_in_width};
-use crate::rendered::stream::run::{Steps, run_steps};
+use crate::rendered::stream::run::{RecordSteps, run_steps};
 use byte_unit::rendered::format::NARROW_TEXT;
 use byte_unit::rendered::math::EXPANSION_PLACES;
 
@@ -107,7 +107,7 @@ impl<'a, A: Allocator + Copy> RunBuffers<'a, A> {
     }
 }
 
-impl<'a, A: Allocator> Steps for Converter<'a, A> {
+impl<'a, A: Allocator> RecordSteps for Converter<'a, A> {
     type End = EndReason;
 
     #[inline(always)]

@@ -6,7 +6,7 @@ use crate::rattle::Vec;
 use crate::rattle::alloc::{Allocator, Global};
 use crate::rattle::io::{self, Read, Write};
 use crate::rendered::lines::line::add_answer;
-use crate::rendered::stream::run::{self, Steps, run_steps};
+use crate::rendered::stream::run::{self, RecordSteps, run_steps};
 use crate::rendered::stream::{Reading, Writing};
 use byte_unit::rendered::base::Kind;
 use std::convert::Infallible;
@@ -28,7 +28,7 @@ pub(crate) struct Answers<A: Allocator> {
     pub(crate) waiting: Vec<u8, A>,
 }
 
-impl<A: Allocator> Steps for Answers<A> {
+impl<A: Allocator> RecordSteps for Answers<A> {
     type End = Infallible;
 
     // Inlined for the row `1.5 KiB` of lines in docs/SPEED.md.

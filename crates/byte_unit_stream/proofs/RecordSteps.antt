@@ -3,7 +3,8 @@ use Rattle.std.proofs.Common.{◌≡◌, ℕ, ◌+◌, List, [], ◌∷◌, ◌+
 use Rattle.std.proofs.Common.{append_assoc, append-nil}
 use Rattle.std.specs.Prelude.{⊤}
 use Rattle.byte_unit_stream.specs.Chunks.{ended_records}
-use Rattle.byte_unit_stream.specs.Steps.{Adds, AreConverted, AreSteps, IsFirst, IsStep, Progress, Relation, start_at}
+use Rattle.byte_unit_stream.specs.RecordSteps.{Adds, AreConverted, AreSteps, IsFirst, IsStep, Progress, Relation}
+use Rattle.byte_unit_stream.specs.RecordSteps.{start_at}
 use Rattle.byte_unit_stream.specs.declared.run.RunError.{RunError}
 use Rattle.byte_unit_stream.specs.declared.run.RunError.TheVariants.{Memory, Read, Write, Ended}
 use Rattle.byte_unit_stream.proofs.Beginnings.{IsBeginningOf-after}
