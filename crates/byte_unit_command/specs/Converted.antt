@@ -23,7 +23,7 @@ pub record IsConverted (old : RunState) (bytes : List ℕ) (new : RunState) (out
   pub new_is : new ≡ record { context = next_context old.context; header = old.header - 1; tally = new.tally }
 
 -- in the mode `abort`, a record that is no header record has a rejected field; the messages are those up to it
-pub record IsRejected (old : RunState) (bytes : List ℕ) (reason : EndReason) (messages : List ℕ) : Type 0 where
+pub record IsRejectedRecord (old : RunState) (bytes : List ℕ) (reason : EndReason) (messages : List ℕ) : Type 0 where
   pub reason_is : reason ≡ Rejected
   pub mode : old.context.options.invalid ≡ Abort
   pub no_header : old.header ≡ 0
@@ -43,4 +43,4 @@ IsTooLarge state reason =
 
 -- the steps of a run
 abbrev pub converting : Relation RunState EndReason
-converting = record { step = IsConverted; ends = IsRejected; closes = IsTotalLine; fails = IsTooLarge }
+converting = record { step = IsConverted; ends = IsRejectedRecord; closes = IsTotalLine; fails = IsTooLarge }

@@ -2,7 +2,7 @@
 //! step.
 
 ghost use Rattle.std.specs.Prelude.{◌^◌, ◌<◌, ◌≤◌, ◌+◌, length, IsTrue, IsErrOf};
-ghost use Rattle.byte_unit_command.specs.Run.{AreEmpty, IsRunOf};
+ghost use Rattle.byte_unit_command.specs.Run.{AreEmptyRunBuffers, IsRunOf};
 ghost use Rattle.byte_unit_stream.specs.Streams.{reading_failed, writing_failed};
 ghost use Rattle.byte_unit_stream.specs.declared.run.RunError.{RunError};
 
@@ -115,7 +115,7 @@ pub struct RunBuffers<'a, A: Allocator> {
 impl<'a, A: Allocator + Copy> RunBuffers<'a, A> {
     /// Creates empty buffers. Does not allocate.
     pub fn new(alloc: A, options: &'a Options<'a>) -> RunBuffers<'a, A>
-        ensures { AreEmpty result }
+        ensures { AreEmptyRunBuffers result }
     {
         RunBuffers {
             part: Vec::new(alloc),
