@@ -14,6 +14,9 @@ use crate::writer::{Writing, tell, write_whole};
 use std::alloc::{AllocError, Allocator};
 use std::io::{Read, Write};
 
+/// The length of the buffer that a program reads into: 64 KiB, as many bytes as a pipe of Linux holds by default.
+pub const CHUNK: usize = 65536;
+
 /// The reason why a run ended before the end of its input, or before the end of its output.
 #[derive(Debug, Clone, Copy, PartialEq, Eq)]
 pub enum RunError<E> {

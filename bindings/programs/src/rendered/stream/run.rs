@@ -10,6 +10,9 @@ use crate::rendered::stream::reader::Reading;
 use crate::rendered::stream::search::end_of;
 use crate::rendered::stream::writer::{Writing, tell, write_whole};
 
+/// The length of the buffer that a program reads into: 64 KiB, as many bytes as a pipe of Linux holds by default.
+pub const CHUNK: usize = 65536;
+
 /// The reason why a run ended before the end of its input, or before the end of its output.
 #[derive(Debug, Clone, Copy, PartialEq, Eq)]
 pub enum RunError<E> {
