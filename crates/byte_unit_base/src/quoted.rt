@@ -53,7 +53,7 @@ pub fn quote<'a>(text: &[u8], buffer: &'a mut [u8; MAX_QUOTE_LEN]) -> &'a str
 {
     let len = quoted_len(text);
     let end = put_escaped(&text[..len], buffer, 0);
-    let end = put(dots(len < text.len()), buffer, end);
+    let end = put_after(dots(len < text.len()), buffer, end);
     str::from_utf8(&buffer[..end]).unwrap()
 }
 
@@ -133,7 +133,7 @@ fn put_char(c: char, buffer: &mut [u8], begin: usize) -> usize
     if c.is_control() || is_unseen(c) {
         return put_code(c as u32, buffer, begin);
     }
-    put(c.encode_utf8(&mut [0; 4]).as_bytes(), buffer, begin)
+    put_after(c.encode_utf8(&mut [0; 4]).as_bytes(), buffer, begin)
 }
 
 /// Writes the code of a character in hexadecimal, between `\u{` and `}`.
@@ -141,9 +141,9 @@ fn put_code(code: u32, buffer: &mut [u8], begin: usize) -> usize
     requires { begin + length (codes "\\u{" ++ digits 16 false code ++ codes "}") ≤ length buffer.old }
     ensures { IsPutAfter (codes "\\u{" ++ digits 16 false code ++ codes "}") begin buffer.old buffer.new result }
 {
-    let digits = put(b"\\u{", buffer, begin);
+    let digits = put_after(b"\\u{", buffer, begin);
     let end = put_hexadecimal(code, buffer, digits);
-    put(b"}", buffer, end)
+    put_after(b"}", buffer, end)
 }
 
 /// Writes a byte: a printable ASCII character as it is, and any other byte as `\x` and two hexadecimal digits.
@@ -152,9 +152,9 @@ fn put_byte(byte: u8, buffer: &mut [u8], begin: usize) -> usize
     ensures { IsPutAfter (escape_byte byte) begin buffer.old buffer.new result }
 {
     if matches!(byte, b' '..=b'~') {
-        return put(&[byte], buffer, begin);
+        return put_after(&[byte], buffer, begin);
     }
-    let high = put(b"\\x", buffer, begin);
+    let high = put_after(b"\\x", buffer, begin);
     let low = put_hexadecimal(u32::from(byte / 16), buffer, high);
     put_hexadecimal(u32::from(byte % 16), buffer, low)
 }
@@ -165,10 +165,10 @@ fn put_hexadecimal(n: u32, buffer: &mut [u8], begin: usize) -> usize
     ensures { IsPutAfter (digits 16 false n) begin buffer.old buffer.new result }
 {
     if n < 16 {
-        return put(&[hexadecimal_digit(n)], buffer, begin);
+        return put_after(&[hexadecimal_digit(n)], buffer, begin);
     }
     let last = put_hexadecimal(n / 16, buffer, begin);
-    put(&[hexadecimal_digit(n % 16)], buffer, last)
+    put_after(&[hexadecimal_digit(n % 16)], buffer, last)
 }
 
 /// Returns a hexadecimal digit, in lower case.
@@ -184,7 +184,7 @@ fn hexadecimal_digit(digit: u32) -> u8
 }
 
 /// Writes bytes to a buffer from the index `begin`, and returns the index where they end.
-fn put(bytes: &[u8], buffer: &mut [u8], begin: usize) -> usize
+fn put_after(bytes: &[u8], buffer: &mut [u8], begin: usize) -> usize
     requires { begin + length bytes.now ≤ length buffer.old }
     ensures { IsPutAfter bytes.now begin buffer.old buffer.new result }
 {

@@ -7,7 +7,7 @@ ghost use Rattle.byte_unit_base.specs.Grammar.Units.{shape_of};
 ghost use Rattle.byte_unit_base.specs.Grammar.Version.{unit_name};
 ghost use Rattle.byte_unit_base.specs.Reading.ParseSpec.{binary_of};
 
-use crate::read::unit::unit_of;
+use crate::read::unit::unit_with_prefix;
 use crate::unit::tables::{UNIT_BITS, UNITS};
 use std::fmt;
 
@@ -205,7 +205,7 @@ impl Unit {
         ensures { shape_of result ≡ binary_of (shape_of self) }
     {
         let Shape { power, bit, .. } = self.shape();
-        unit_of(power as usize, true, bit)
+        unit_with_prefix(power as usize, true, bit)
     }
 
     /// Returns the shape of the unit, which determines its name and its bits.

@@ -3,7 +3,7 @@ use Rattle.std.proofs.Common.{◌≡◌, ◌≢◌, ℕ, ◌+◌, ◌<◌, ℤ, 
 use Rattle.std.proofs.lemmas.List.{get_or-set_same, get_or-set_other}
 use Rattle.byte_unit_base.specs.declared.spec.ParseSpec.{ParseSpec}
 use Rattle.byte_unit_c.specs.declared.values.Number.{Number}
-use Rattle.byte_unit_c.specs.Many.{text_of, IsParsed, AreParsed, zero_number}
+use Rattle.byte_unit_c.specs.Many.{text_at, IsParsed, AreParsed, zero_number}
 
 -- an element below i stays as it is
 kept : {X Y : Type 0} (P : X → Y → Type 0) (xs : List X) (ys : List Y) (i k : ℕ) (x d : X) (y e : Y) → k < i
@@ -28,11 +28,11 @@ one_more {X} {Y} P xs ys i x d y e in_xs in_ys here below =
 -- one text more has its code and its size, after these are written
 pub one_more_text : (spec : ParseSpec) (bytes : List ℕ) (offsets : List ℤ) (i : ℕ)
     (codes : List ℕ) (sizes : List Number) (text : List ℕ) (code : ℕ) (size : Number)
-    → i < length codes → i < length sizes → text ≡ text_of bytes offsets i
+    → i < length codes → i < length sizes → text ≡ text_at bytes offsets i
     → IsParsed spec text code size
     → AreParsed spec bytes offsets i codes sizes
     → AreParsed spec bytes offsets (i + 1) (set codes i code) (set sizes i size)
 one_more_text spec bytes offsets i codes sizes text code size in_codes in_sizes is parsed below =
-    let P : ℕ → ℕ → Number → Type 0 = λ k. IsParsed spec (text_of bytes offsets k) in
+    let P : ℕ → ℕ → Number → Type 0 = λ k. IsParsed spec (text_at bytes offsets k) in
     let F : List ℕ → Type 0 = λ text. IsParsed spec text code size in
     one_more P codes sizes i code 0 size zero_number in_codes in_sizes (subst F is parsed) below

@@ -36,8 +36,8 @@ position (pos n) = n
 position (negsuc n) = 0
 
 -- the bytes of text i
-abbrev pub text_of : List ℕ → List ℤ → ℕ → List ℕ
-text_of bytes offsets i =
+abbrev pub text_at : List ℕ → List ℤ → ℕ → List ℕ
+text_at bytes offsets i =
     slice_range bytes (position (slice_index_or offsets i (pos 0))) (position (slice_index_or offsets (i + 1) (pos 0)))
 
 -- 0 with the size, the code of the error, or 6 if the bytes are not UTF-8; without a size, the number is 0
@@ -60,7 +60,7 @@ zero_number = record { low = 0; high = 0 }
 abbrev pub AreParsed : ParseSpec → List ℕ → List ℤ → ℕ → List ℕ → List Number → Type 0
 AreParsed spec bytes offsets n codes sizes =
     (i : ℕ) → i < n
-    → IsParsed spec (text_of bytes offsets i) (slice_index codes i) (slice_index_or sizes i zero_number)
+    → IsParsed spec (text_at bytes offsets i) (slice_index codes i) (slice_index_or sizes i zero_number)
 
 -- the call is rejected: an argument is invalid, and nothing is written
 abbrev pub IsRejectedCall : ℕ → List Number → List Number → List ℕ → List ℕ → Type 0

@@ -13,7 +13,7 @@ ghost use Rattle.byte_unit_c.specs.Parse.{Explains, IsUnitBytesReading, IsUnitEx
 
 use crate::flags::{any_spec_at, parse_spec_at};
 use crate::message::write_message;
-use crate::parse::{read_unit, unit_flags};
+use crate::parse::{read_unit_bytes, unit_flags};
 use crate::texts::write;
 use byte_unit_base::{
     LocatedError, MAX_QUOTE_LEN, ParseError, ParseSpec, location_at, quote, size,
@@ -87,7 +87,7 @@ fn explain_unit_as(text: &[u8], spec: ParseSpec, out: &mut [u8]) -> usize
     ensures bound { result ≤ 256 }
 {
     let flags = unit_flags(spec);
-    match read_unit(text, flags) {
+    match read_unit_bytes(text, flags) {
         Some(Ok(_)) => 0,
         Some(Err(stop)) => {
             let error = LocatedError {

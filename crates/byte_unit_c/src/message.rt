@@ -34,7 +34,7 @@ pub fn write_message(error: &LocatedError, out: &mut [u8]) -> usize
     ensures text { WritesForm (IsErrorText error.now.error error.now.location) out.old out.new result }
     ensures bound { result ≤ 256 }
 {
-    match quoted(error) {
+    match message_parts(error) {
         Some((character, rest)) => write_quoted(character, rest, error.location, out),
         None => write_formatted(error, out),
     }
@@ -53,7 +53,7 @@ fn write_formatted(error: &LocatedError, out: &mut [u8]) -> usize
 
 /// Returns the character that the message of an error quotes, and what follows it there. Returns `None` if it quotes no
 /// character, or not as it is.
-fn quoted(error: &LocatedError) -> Option<(u8, &'static [u8])>
+fn message_parts(error: &LocatedError) -> Option<(u8, &'static [u8])>
     requires { expected_codes error.now.expected ≡ named_in (size_fault error.now.error) }
     ensures text { IfSome result (λ found. parse_text error.now.error
         ≡ Some (codes "the character '" ++ found.0 ∷ found.1.now)) }

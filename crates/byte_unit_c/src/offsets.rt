@@ -1,7 +1,7 @@
 //! The offsets of many texts in one buffer.
 
 ghost use Rattle.std.specs.Prelude.{◌≡◌, ◌+◌, ◌<◌, ◌≤◌, ◌↔◌, pos, ◌≤ℤ◌, IsTrue, length, slice_index_or, slice_range};
-ghost use Rattle.byte_unit_c.specs.Many.{offsets_of, Ascends, position, text_of};
+ghost use Rattle.byte_unit_c.specs.Many.{offsets_of, Ascends, position, text_at};
 
 /// Offsets of 64 or of 32 bits.
 #[derive(Clone, Copy)]
@@ -60,7 +60,7 @@ impl<'a> Offsets<'a> {
     pub fn text_at<'d>(self, data: &'d [u8], i: usize) -> &'d [u8]
         requires bound { i + 1 < length (offsets_of self) }
         requires ascends { Ascends (pos 0) (pos (length «data».now)) (offsets_of self) }
-        ensures { result.now ≡ text_of «data».now (offsets_of self.entry) i }
+        ensures { result.now ≡ text_at «data».now (offsets_of self.entry) i }
     {
         let begin = position(self.at(i));
         let end = position(self.at(i + 1));

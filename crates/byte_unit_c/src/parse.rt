@@ -158,7 +158,7 @@ fn parse_unit_as(text: &[u8], spec: ParseSpec, unit: &mut u32, errors: &mut [Err
         × IsUnitReturned text.now answer result unit.old unit.new errors.old errors.new }
 {
     let flags = unit_flags(spec);
-    match read_unit(text, flags) {
+    match read_unit_bytes(text, flags) {
         Some(Ok(found)) => {
             *unit = unit_code(found);
             OK
@@ -173,7 +173,7 @@ fn parse_unit_as(text: &[u8], spec: ParseSpec, unit: &mut u32, errors: &mut [Err
 
 /// Parses a unit from bytes, as `read_unit_text` does from a string. Returns `None` if the bytes are not UTF-8.
 #[inline(always)]
-pub(crate) fn read_unit(bytes: &[u8], flags: Flags) -> Option<Result<Unit, Stop<UnitStop>>>
+pub(crate) fn read_unit_bytes(bytes: &[u8], flags: Flags) -> Option<Result<Unit, Stop<UnitStop>>>
     ensures { MatchOption result (¬ IsUtf8 bytes.now)
         (λ read. IsUtf8 bytes.now × IsUnitOrStop flags bytes.now read) }
 {

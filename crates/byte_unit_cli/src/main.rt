@@ -173,8 +173,8 @@ fn error_text(
 ) -> Result<String, AllocError> {
     let marked = with_marks(rt.alloc(), words)?;
     match command(rt.alloc())?.try_get_matches_from(marked.as_slice()) {
-        Ok(_) => text_of(rt, error),
-        Err(error) => text_of(rt, &error),
+        Ok(_) => clap_text(rt, error),
+        Err(error) => clap_text(rt, &error),
     }
 }
 
@@ -183,7 +183,7 @@ fn error_text(
 /// # Errors
 ///
 /// Returns `AllocError` if allocation fails, or if it failed in clap.
-fn text_of(rt: &HostRuntime, error: &clap::Error) -> Result<String, AllocError> {
+fn clap_text(rt: &HostRuntime, error: &clap::Error) -> Result<String, AllocError> {
     if error.kind() == ErrorKind::OutOfMemory {
         return Err(AllocError);
     }

@@ -6,14 +6,15 @@ use Rattle.byte_unit_command.specs.CallEnds.{AddsFields, Appends, Ends, IsEarly,
 use Rattle.byte_unit_command.specs.Converted.{converting}
 use Rattle.byte_unit_command.specs.Field.{Found}
 use Rattle.byte_unit_command.specs.Fields.{between_of, fields_of}
-use Rattle.byte_unit_command.specs.Output.{IsField, IsRecord, Output, Passes, copied, messages_in, other, together}
+use Rattle.byte_unit_command.specs.Output.{IsFieldOutput, IsRecord, Output, Passes, copied, messages_in, other}
+use Rattle.byte_unit_command.specs.Output.{together}
 use Rattle.byte_unit_command.specs.Ranges.{IsChosenField}
 use Rattle.byte_unit_command.specs.State.{RunState, next_context}
 use Rattle.byte_unit_command.specs.Sums.{Counts}
 use Rattle.byte_unit_command.specs.declared.error.EndReason.{EndReason}
 use Rattle.byte_unit_command.proofs.Results.{error-passed}
 use Rattle.byte_unit_command.proofs.Tallies.{Counts-append, Counts-none}
-use Rattle.byte_unit_stream.specs.Steps.{Adds, Progress}
+use Rattle.byte_unit_stream.specs.RecordSteps.{Adds, Progress}
 use Rattle.byte_unit_stream.specs.declared.run.RunError.{RunError}
 use Rattle.byte_unit_stream.specs.declared.run.RunError.TheVariants.{Memory}
 
@@ -64,8 +65,8 @@ together-one between output =
 
 -- one field was added
 pub AddsFields-one : (number : ℕ) (field : List ℕ) (old new : Progress RunState) (output : Output)
-    → IsField old.state.context number field output → Passes old.state.context.options output.found → Appends output old new
-    → AddsFields number (field ∷ []) old new
+    → IsFieldOutput old.state.context number field output → Passes old.state.context.options output.found
+    → Appends output old new → AddsFields number (field ∷ []) old new
 AddsFields-one number field old new output is passes appends =
     let options = old.state.context.options in
     let one = sym (together-one (between_of options) output) in record {

@@ -4,7 +4,7 @@ use Rattle.std.proofs.Common.{MatchOption, inl, inr, subst, sym, refl, ◌∙◌
 use Rattle.std.specs.Char.{digit_value}
 use Rattle.std.specs.Str.Parse.{AllDigits}
 use Rattle.std.proofs.lemmas.Str.Pattern.{IsSplitOnceResult, split_after, split_parts}
-use Rattle.byte_unit_command.specs.FieldList.{IsFirst, IsLast, IsRange, AreRanges}
+use Rattle.byte_unit_command.specs.FieldList.{IsRangeStart, IsRangeEnd, IsRange, AreRanges}
 use Rattle.byte_unit_command.specs.Positive.{IsPositive}
 use Rattle.byte_unit_command.specs.declared.options.FieldRange.{FieldRange}
 
@@ -26,7 +26,7 @@ hyphens_are_no_digits [] after digits = hyphen_is_no_digit 45 digits.0 refl
 hyphens_are_no_digits (c ∷ cs) after digits = hyphens_are_no_digits cs after digits.1
 
 -- nothing before a first hyphen of a range is a hyphen
-firsts_lack_hyphens : (before : List ℕ) (first : ℕ) → IsFirst before first → (i : ℕ) → i < length before
+firsts_lack_hyphens : (before : List ℕ) (first : ℕ) → IsRangeStart before first → (i : ℕ) → i < length before
     → get_or before i 0 ≢ 45
 firsts_lack_hyphens [] first is i bound = absurd (omega arith)
 firsts_lack_hyphens (c ∷ cs) first is i bound = digits_lack_hyphens (c ∷ cs) is.is_numeral.1 i bound
@@ -36,7 +36,7 @@ firsts_lack_hyphens (c ∷ cs) first is i bound = digits_lack_hyphens (c ∷ cs)
 pub cut_range : (item : List ℕ) (range : FieldRange) (r : Option (Bor (List ℕ) × Bor (List ℕ)))
     → IsSplitOnceResult 45 item r → IsRange item range
     → MatchOption r (IsPositive item range.first × (range.last ≡ Some range.first))
-    (λ parts. IsFirst parts.0.now range.first × IsLast parts.1.now range.first range.last)
+    (λ parts. IsRangeStart parts.0.now range.first × IsRangeEnd parts.1.now range.first range.last)
 cut_range item range None split (inl single) = single
 cut_range item range None split (inr (before, after, item_is, is_first, is_last)) =
     absurd (split_after 45 item before after None split (lit< tt) item_is
@@ -47,30 +47,30 @@ cut_range item range (Some parts) split (inl single) =
 cut_range item range (Some parts) split (inr (before, after, item_is, is_first, is_last)) =
     let same = split_after 45 item before after (Some parts) split (lit< tt) item_is
     (firsts_lack_hyphens before range.first is_first) in (
-      subst (λ text. IsFirst text range.first) (sym same.0) is_first,
-      subst (λ text. IsLast text range.first range.last) (sym same.1) is_last,
+      subst (λ text. IsRangeStart text range.first) (sym same.0) is_first,
+      subst (λ text. IsRangeEnd text range.first range.last) (sym same.1) is_last,
     )
 
 -- a text is at most one first field
-one_first : (before : List ℕ) (first other : ℕ) → IsFirst before first → IsFirst before other → first ≡ other
+one_first : (before : List ℕ) (first other : ℕ) → IsRangeStart before first → IsRangeStart before other → first ≡ other
 one_first [] first other is is_too = is ∙ sym is_too
 one_first (c ∷ cs) first other is is_too = sym is.value ∙ is_too.value
 
 -- no field before the first hyphen: the item is no range
 pub without_first : (item : List ℕ) (r : Option (Bor (List ℕ) × Bor (List ℕ))) (parts : Bor (List ℕ) × Bor (List ℕ))
-    → IsSplitOnceResult 45 item r → r ≡ Some parts → ((first : ℕ) → ¬ IsFirst parts.0.now first)
+    → IsSplitOnceResult 45 item r → r ≡ Some parts → ((first : ℕ) → ¬ IsRangeStart parts.0.now first)
     → (range : FieldRange) → ¬ IsRange item range
 without_first item r parts split is none range is_range =
     none range.first (cut_range item range (Some parts) (subst (IsSplitOnceResult 45 item) is split) is_range).0
 
 -- no last field after the first hyphen: the item is no range
 pub without_last : (item : List ℕ) (r : Option (Bor (List ℕ) × Bor (List ℕ))) (parts : Bor (List ℕ) × Bor (List ℕ))
-    (first : ℕ) → IsSplitOnceResult 45 item r → r ≡ Some parts → IsFirst parts.0.now first
-    → ((last : Option ℕ) → ¬ IsLast parts.1.now first last) → (range : FieldRange) → ¬ IsRange item range
+    (first : ℕ) → IsSplitOnceResult 45 item r → r ≡ Some parts → IsRangeStart parts.0.now first
+    → ((last : Option ℕ) → ¬ IsRangeEnd parts.1.now first last) → (range : FieldRange) → ¬ IsRange item range
 without_last item r parts first split is is_first none range is_range =
     let cut = cut_range item range (Some parts) (subst (IsSplitOnceResult 45 item) is split) is_range in
     let same = one_first parts.0.now range.first first cut.0 is_first in
-    none range.last (subst (λ first. IsLast parts.1.now first range.last) same cut.1)
+    none range.last (subst (λ first. IsRangeEnd parts.1.now first range.last) same cut.1)
 
 -- an item without a hyphen that is no positive number is no range
 pub without_number : (item : List ℕ) (r : Option (Bor (List ℕ) × Bor (List ℕ))) → IsSplitOnceResult 45 item r → r ≡ None

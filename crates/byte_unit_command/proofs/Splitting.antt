@@ -8,14 +8,15 @@ use Rattle.std.specs.List.{flat_map, join_with_byte, onto_first}
 use Rattle.byte_unit_command.specs.Field.{Found}
 use Rattle.byte_unit_command.specs.Fields.{EndsFirst, begins_blank, between_by, between_of, blank_fields}
 use Rattle.byte_unit_command.specs.Fields.{fields_by, fields_of, is_blank}
-use Rattle.byte_unit_command.specs.Output.{AreFields, IsField, Output, Passes, copied, found_in, joined, messages_in}
+use Rattle.byte_unit_command.specs.Output.{AreFieldOutputs, IsFieldOutput, Output, Passes, copied, found_in, joined}
+use Rattle.byte_unit_command.specs.Output.{messages_in}
 use Rattle.byte_unit_command.specs.Output.{other, together}
 use Rattle.byte_unit_command.specs.Sums.{has_rejected}
 use Rattle.byte_unit_command.specs.CallEnds.{AddsFields, Aborts, Appends, IsEarly}
 use Rattle.byte_unit_command.specs.Ranges.{IsChosenField}
 use Rattle.byte_unit_command.specs.State.{Context, RunState}
 use Rattle.byte_unit_stream.specs.Records.{split_by}
-use Rattle.byte_unit_stream.specs.Steps.{Progress}
+use Rattle.byte_unit_stream.specs.RecordSteps.{Progress}
 use Rattle.byte_unit_command.specs.declared.error.EndReason.{EndReason}
 use Rattle.byte_unit_command.specs.declared.options.Options.{Options}
 use Rattle.byte_unit_command.specs.declared.options.Separator.{Separator}
@@ -27,19 +28,19 @@ use Rattle.byte_unit_command.proofs.Converting.{Appends-more, Appends-none, Appe
 use Rattle.byte_unit_command.proofs.Tallies.{Passes-append}
 
 -- what two lists of fields give
-AreFields-append : (context : Context) (number : ℕ) (front back : List (List ℕ)) (begun ended : List Output)
-    → AreFields context number front begun → AreFields context (number + length front) back ended
-    → AreFields context number (front ++ back) (begun ++ ended)
-AreFields-append context number [] back [] ended _ are =
+AreFieldOutputs-append : (context : Context) (number : ℕ) (front back : List (List ℕ)) (begun ended : List Output)
+    → AreFieldOutputs context number front begun → AreFieldOutputs context (number + length front) back ended
+    → AreFieldOutputs context number (front ++ back) (begun ++ ended)
+AreFieldOutputs-append context number [] back [] ended _ are =
     let none : number + length {A = List ℕ} [] ≡ number = omega arith in
-    subst (λ number. AreFields context number back ended) none are
-AreFields-append context number [] back (output ∷ begun) ended never are = absurd never
-AreFields-append context number (field ∷ front) back [] ended never are = absurd never
-AreFields-append context number (field ∷ front) back (output ∷ begun) ended (is, begin) are =
+    subst (λ number. AreFieldOutputs context number back ended) none are
+AreFieldOutputs-append context number [] back (output ∷ begun) ended never are = absurd never
+AreFieldOutputs-append context number (field ∷ front) back [] ended never are = absurd never
+AreFieldOutputs-append context number (field ∷ front) back (output ∷ begun) ended (is, begin) are =
     let after : number + length (field ∷ front) ≡ number + 1 + length front = omega arith in (
       is,
-      AreFields-append context (number + 1) front back begun ended begin
-          (subst (λ number. AreFields context number back ended) after are),
+      AreFieldOutputs-append context (number + 1) front back begun ended begin
+          (subst (λ number. AreFieldOutputs context number back ended) after are),
     )
 
 -- an output by its parts
@@ -74,11 +75,11 @@ joined-append between (output ∷ second ∷ begun) next others =
 
 -- what some fields and then others give together, of which there is one at least
 together-append : (context : Context) (number : ℕ) (between : List ℕ) (begun : List Output) (fields : List (List ℕ))
-    (ended : List Output) → IsSplit fields → AreFields context number fields ended
+    (ended : List Output) → IsSplit fields → AreFieldOutputs context number fields ended
     → made ((followed between begun).text ++ (together between ended).text) (found_in begun ++ found_in ended)
     (messages_in begun ++ messages_in ended) ≡ together between (begun ++ ended)
 together-append context number between begun fields [] (own, others, is) are =
-    absurd (subst (λ fields. AreFields context number fields []) is are)
+    absurd (subst (λ fields. AreFieldOutputs context number fields []) is are)
 together-append context number between begun fields (next ∷ ended) split are =
     made-same (joined-append between begun next ended)
     (flat_map-append (λ (output : Output). output.found) begun (next ∷ ended))
@@ -86,7 +87,7 @@ together-append context number between begun fields (next ∷ ended) split are =
 
 -- some fields and then one more, each followed
 followed-one : (context : Context) (number : ℕ) (between : List ℕ) (begun : List Output) (field : List ℕ)
-    (ended : List Output) → AreFields context number (field ∷ []) ended
+    (ended : List Output) → AreFieldOutputs context number (field ∷ []) ended
     → made ((followed between begun).text ++ (together between ended).text ++ between)
     (found_in begun ++ found_in ended) (messages_in begun ++ messages_in ended) ≡ followed between (begun ++ ended)
 followed-one context number between begun field [] never = absurd never
@@ -101,13 +102,13 @@ followed-one context number between begun field (output ∷ []) are =
     (flat_map-append (λ (output : Output). output.messages) begun (output ∷ []))
 
 -- fields none of which is chosen are copied
-AreFields-copied : (context : Context) (fields : List (List ℕ)) (number : ℕ)
+AreFieldOutputs-copied : (context : Context) (fields : List (List ℕ)) (number : ℕ)
     → ((later : ℕ) → number ≤ later → ¬ IsChosenField context.options.fields.now later)
-    → AreFields context number fields (map copied fields)
-AreFields-copied context [] number past = tt
-AreFields-copied context (field ∷ fields) number past = (
+    → AreFieldOutputs context number fields (map copied fields)
+AreFieldOutputs-copied context [] number past = tt
+AreFieldOutputs-copied context (field ∷ fields) number past = (
   other (past number (omega arith)) refl,
-  AreFields-copied context fields (number + 1) (λ later high. past later (omega (arith, high))),
+  AreFieldOutputs-copied context fields (number + 1) (λ later high. past later (omega (arith, high))),
 )
 
 -- copied fields together
@@ -183,7 +184,7 @@ pub record IsSplitting (bytes : List ℕ) (old : Progress RunState) (number : �
   pub outputs : List Output
   pub fields_are : fields_of old.state.context.options bytes ≡ before ++ fields_of old.state.context.options rest
   pub number_is : number ≡ 1 + length before
-  pub are_fields : AreFields old.state.context 1 before outputs
+  pub are_fields : AreFieldOutputs old.state.context 1 before outputs
   pub passes : Passes old.state.context.options (found_in outputs)
   pub appends : Appends (followed (between_of old.state.context.options) outputs) old new
   pub few : number + length rest ≤ 1 + length bytes
@@ -221,10 +222,10 @@ module _ {bytes : List ℕ} {old : Progress RunState} {number : ℕ} {rest : Lis
   appended = subst (Appends (followed between so_far.outputs) old) now_is so_far.appends
 
   -- what the next fields give, too
-  are-more : (fields : List (List ℕ)) (outputs : List Output) → AreFields old.state.context number fields outputs
-      → AreFields old.state.context 1 (so_far.before ++ fields) (so_far.outputs ++ outputs)
-  are-more fields outputs are = AreFields-append old.state.context 1 so_far.before fields so_far.outputs outputs
-      so_far.are_fields (subst (λ number. AreFields old.state.context number fields outputs) so_far.number_is are)
+  are-more : (fields : List (List ℕ)) (outputs : List Output) → AreFieldOutputs old.state.context number fields outputs
+      → AreFieldOutputs old.state.context 1 (so_far.before ++ fields) (so_far.outputs ++ outputs)
+  are-more fields outputs are = AreFieldOutputs-append old.state.context 1 so_far.before fields so_far.outputs outputs
+      so_far.are_fields (subst (λ number. AreFieldOutputs old.state.context number fields outputs) so_far.number_is are)
 
   -- the invariant holds after one more field and the bytes after it, `mark`
   pub IsSplitting-step : (mark : List ℕ) → mark ≡ between → (n : ℕ) → EndsFirst options.separator rest n
@@ -267,7 +268,7 @@ module _ {bytes : List ℕ} {old : Progress RunState} {number : ℕ} {rest : Lis
       let same = together-append old.state.context number between so_far.outputs (fields_of options rest) adds.outputs split
       adds.are_fields in record {
         outputs = so_far.outputs ++ adds.outputs;
-        are_fields = subst (λ fields. AreFields old.state.context 1 fields (so_far.outputs ++ adds.outputs))
+        are_fields = subst (λ fields. AreFieldOutputs old.state.context 1 fields (so_far.outputs ++ adds.outputs))
             (sym so_far.fields_are) (are-more (fields_of options rest) adds.outputs adds.are_fields);
         passes = subst (λ (output : Output). Passes options output.found) same
             (Passes-append options (found_in so_far.outputs) (found_in adds.outputs) so_far.passes adds.passes);
@@ -293,7 +294,7 @@ module _ {bytes : List ℕ} {old : Progress RunState} {number : ℕ} {rest : Lis
       subst (λ (at : Progress RunState). AddsFields 1 (fields_of options bytes) old (record at { out = out }))
       (sym now_is) (with-others (fields_IsSplit options separator is rest) (record now { out = out }) (record {
         outputs = map copied fields;
-        are_fields = AreFields-copied old.state.context fields number past;
+        are_fields = AreFieldOutputs-copied old.state.context fields number past;
         passes = subst (λ (output : Output). Passes options output.found) same (λ mode. refl);
         appends = subst (λ output. Appends output now (record now { out = out })) same
             (Appends-more (Appends-none now) rest out out_is);
@@ -324,7 +325,7 @@ module _ {bytes : List ℕ} {old : Progress RunState} {number : ℕ} {rest : Lis
           are_fields = are-more at.before at.outputs at.are_fields;
           none_before = ap has_rejected found ∙ Passes-append options (found_in so_far.outputs) (found_in at.outputs)
               so_far.passes (λ _. at.none_before) aborts.mode;
-          is_field = subst (λ number. IsField old.state.context number at.field at.own) count at.is_field;
+          is_field = subst (λ number. IsFieldOutput old.state.context number at.field at.own) count at.is_field;
           is_rejected = at.is_rejected;
           messages_are =
               ap (λ more. before ++ more) at.messages_are

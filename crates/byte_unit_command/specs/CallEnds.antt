@@ -1,9 +1,9 @@
 -- Private: how far a converter has come, and how the calls end that convert fields.
 use Rattle.std.specs.Prelude.{◌≡◌, ◌⊎◌, ⊤, ℕ, List, [], ◌∷◌, ◌++◌, Some, Result, MatchResult}
-use Rattle.byte_unit_command.specs.Converted.{IsRejected}
+use Rattle.byte_unit_command.specs.Converted.{IsRejectedRecord}
 use Rattle.byte_unit_command.specs.Fields.{between_of}
 use Rattle.byte_unit_command.specs.Messages.{AreLimitMessages}
-use Rattle.byte_unit_command.specs.Output.{AreFields, AreMessagesToRejected, Output, Passes, together}
+use Rattle.byte_unit_command.specs.Output.{AreFieldOutputs, AreMessagesToRejected, Output, Passes, together}
 use Rattle.byte_unit_command.specs.State.{Context as ContextOfRecord, RunState}
 use Rattle.byte_unit_command.specs.Sums.{Counts}
 use Rattle.byte_unit_command.specs.declared.converter.Converter.{Converter}
@@ -13,7 +13,7 @@ use Rattle.byte_unit_command.specs.declared.notice.Notices.{Notices}
 use Rattle.byte_unit_command.specs.declared.notice.Context.{Context}
 use Rattle.byte_unit_command.specs.declared.options.Invalid.TheVariants.{Abort}
 use Rattle.byte_unit_stream.specs.Beginnings.{IsBeginningOf}
-use Rattle.byte_unit_stream.specs.Steps.{Progress}
+use Rattle.byte_unit_stream.specs.RecordSteps.{Progress}
 use Rattle.byte_unit_stream.specs.declared.run.RunError.{RunError}
 use Rattle.byte_unit_stream.specs.declared.run.RunError.TheVariants.{Memory, Ended}
 
@@ -43,7 +43,7 @@ pub record Appends (output : Output) (old new : Progress RunState) : Type 0 wher
 -- what these fields give was appended, the first of which has this number
 pub record AddsFields (number : ℕ) (fields : List (List ℕ)) (old new : Progress RunState) : Type 0 where
   pub outputs : List Output
-  pub are_fields : AreFields old.state.context number fields outputs
+  pub are_fields : AreFieldOutputs old.state.context number fields outputs
   pub passes : Passes old.state.context.options (together (between_of old.state.context.options) outputs).found
   pub appends : Appends (together (between_of old.state.context.options) outputs) old new
 
@@ -81,4 +81,4 @@ Ends number fields old new result =
 pub record IsEarlyAt (bytes : List ℕ) (old new : Progress RunState) (error : RunError EndReason) : Type 0 where
   pub keeps : Keeps old new
   pub why : (error ≡ Memory) ⊎ ((error ≡ Ended Rejected)
-      × ((own : List ℕ) × IsRejected old.state bytes Rejected own × (new.messages ≡ old.messages ++ own)))
+      × ((own : List ℕ) × IsRejectedRecord old.state bytes Rejected own × (new.messages ≡ old.messages ++ own)))

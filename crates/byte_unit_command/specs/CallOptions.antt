@@ -7,7 +7,7 @@ use Rattle.byte_unit.specs.declared.UnitType.TheVariants.{Binary}
 use Rattle.byte_unit_command.specs.Meaning.{IsFrom, IsOutputForm, MeansNothing}
 use Rattle.byte_unit_command.specs.Meaning.{IsForm, IsNoForm, IsDelimiter, IsPadding}
 use Rattle.byte_unit_command.specs.Meaning.{IsMode, IsLimit, IsNoLimit}
-use Rattle.byte_unit_command.specs.Values.{text_of}
+use Rattle.byte_unit_command.specs.Values.{given_text}
 use Rattle.byte_unit_command.specs.declared.options.FieldRange.{FieldRange}
 use Rattle.byte_unit_command.specs.declared.options.Form.{Form}
 use Rattle.byte_unit_command.specs.declared.options.Form.TheVariants.{Exact, Largest}
@@ -32,12 +32,12 @@ precision_of human_readable (Some precision) = Some precision
 -- the form that the values ask for
 abbrev pub IsFormOf : Values → Form → Type 0
 IsFormOf values form =
-    IsForm (form_without values.human_readable) values.kind values.ignore_case (text_of values.to) form
+    IsForm (form_without values.human_readable) values.kind values.ignore_case (given_text values.to) form
 
 -- what separates fields: blanks with `--blanks`, and else the delimiter that is given
 abbrev pub IsSeparator : Values → Option Separator → Type 0
 IsSeparator values separator =
-    (delimiter : Option Separator) × IsDelimiter (text_of values.delimiter) delimiter
+    (delimiter : Option Separator) × IsDelimiter (given_text values.delimiter) delimiter
     × (separator ≡ (if values.blanks then Some Blanks else delimiter))
 
 -- the options of a call with these values and fields. Operands are records that end with a zero byte, and none of them
@@ -45,26 +45,27 @@ IsSeparator values separator =
 pub record AreOptions (values : Values) (ranges : List FieldRange) (options : Options) : Type 0 where
   pub kind : options.spec.kind ≡ values.kind
   pub ignore_case : options.spec.ignore_case ≡ values.ignore_case
-  pub binary : IsFrom (text_of values.from) options.spec.binary
+  pub binary : IsFrom (given_text values.from) options.spec.binary
   pub form : (given : Form) × IsFormOf values given × IsOutputForm values.no_unit given options.form
-  pub suffix : options.suffix.now ≡ unwrap_or (text_of values.suffix) []
+  pub suffix : options.suffix.now ≡ unwrap_or (given_text values.suffix) []
   pub precision : options.precision ≡ precision_of values.human_readable values.precision
-  pub padding : IsPadding (text_of values.padding) (record { width = options.width; align_left = options.align_left })
+  pub padding : IsPadding (given_text values.padding)
+      (record { width = options.width; align_left = options.align_left })
   pub separator : IsSeparator values options.separator
   pub fields : options.fields.now ≡ ranges
   pub record_end : options.record_end ≡ (if values.has_operands then 0 else if values.zero_terminated then 0 else 10)
   pub output_end : options.output_end ≡ (if values.zero_terminated then 0 else 10)
   pub header : options.header ≡ (if values.has_operands then 0 else unwrap_or values.header 0)
-  pub invalid : IsMode (text_of values.invalid) options.invalid
+  pub invalid : IsMode (given_text values.invalid) options.invalid
   pub total : options.total ≡ values.total
-  pub max : IsLimit options.spec (text_of values.max) options.max
-  pub min : IsLimit options.spec (text_of values.min) options.min
+  pub max : IsLimit options.spec (given_text values.max) options.max
+  pub min : IsLimit options.spec (given_text values.min) options.min
 
 -- the option with this name has this value, which is wrong
 abbrev pub IsWrongOf : List ℕ → Option (Bor (List ℕ)) → (List ℕ → ValueError → Type 0) → Wrong → Type 0
 IsWrongOf name value IsWrongValue wrong =
-    (wrong.option.now ≡ name) × (text_of value ≡ text_of wrong.value)
-    × MatchOption (text_of wrong.value) ⊥ (λ text. IsWrongValue text wrong.reason)
+    (wrong.option.now ≡ name) × (given_text value ≡ given_text wrong.value)
+    × MatchOption (given_text wrong.value) ⊥ (λ text. IsWrongValue text wrong.reason)
 
 -- in the exact form, no more than 28 digits after the point are asked for
 abbrev pub IsWithinExact : Form → Option ℕ → Type 0
@@ -104,7 +105,7 @@ IsWrongField values wrong =
 abbrev pub IsWrongSeparator : Values → Wrong → Type 0
 IsWrongSeparator values wrong =
     IsWrongOf (codes "--delimiter") values.delimiter (MeansNothing IsDelimiter Delimiter) wrong
-    ⊎ (delimiter : Option Separator) × IsDelimiter (text_of values.delimiter) delimiter × IsWrongField values wrong
+    ⊎ (delimiter : Option Separator) × IsDelimiter (given_text values.delimiter) delimiter × IsWrongField values wrong
 
 -- the ranges of a list of fields
 abbrev pub ranges_of : Option (Bor (List FieldRange)) → Option (List FieldRange)
@@ -113,7 +114,8 @@ ranges_of fields = option_map (λ list. list.now) fields
 -- `--field` is not a list of fields
 abbrev pub IsWrongList : Values → Option (Bor (List FieldRange)) → Wrong → Type 0
 IsWrongList values fields wrong =
-    (ranges_of fields ≡ None) × (wrong.option.now ≡ codes "--field") × (text_of wrong.value ≡ text_of values.field)
+    (ranges_of fields ≡ None) × (wrong.option.now ≡ codes "--field")
+    × (given_text wrong.value ≡ given_text values.field)
     × (wrong.reason ≡ Fields)
 
 -- an option is wrong; or it is right, and with what it means this holds of the later ones
@@ -123,7 +125,7 @@ OrLater {M} is_wrong IsRight Later = is_wrong ⊎ (meaning : M) × IsRight meani
 -- this is the first option that is wrong, in this order; `fields` is the list that `--field` is, if it is one
 abbrev pub IsFirstWrong : Values → Option (Bor (List FieldRange)) → Wrong → Type 0
 IsFirstWrong values fields wrong =
-    OrLater (IsWrongOf (codes "--from") values.from (MeansNothing IsFrom From) wrong) (IsFrom (text_of values.from))
+    OrLater (IsWrongOf (codes "--from") values.from (MeansNothing IsFrom From) wrong) (IsFrom (given_text values.from))
     (λ binary. OrLater (IsWrongForm values wrong)
     (λ given. IsFormOf values given × IsWithinExact given values.precision)
     (λ given. OrLater (IsWrongNoUnit values.no_unit given wrong) (IsOutputForm values.no_unit given)
@@ -131,9 +133,9 @@ IsFirstWrong values fields wrong =
     (λ (separator : Option Separator). IsSeparator values separator × AreFieldsSeparated values)
     (λ _. OrLater (IsWrongList values fields wrong) (λ (ranges : List FieldRange). ranges_of fields ≡ Some ranges)
     (λ _. OrLater (IsWrongOf (codes "--padding") values.padding (MeansNothing IsPadding Padding) wrong)
-    (IsPadding (text_of values.padding))
+    (IsPadding (given_text values.padding))
     (λ _. OrLater (IsWrongOf (codes "--invalid") values.invalid (MeansNothing IsMode Mode) wrong)
-    (IsMode (text_of values.invalid))
+    (IsMode (given_text values.invalid))
     (λ _. OrLater (IsWrongOf (codes "--max") values.max (IsNoLimit (parse_spec values.kind values.ignore_case binary)) wrong)
-    (IsLimit (parse_spec values.kind values.ignore_case binary) (text_of values.max))
+    (IsLimit (parse_spec values.kind values.ignore_case binary) (given_text values.max))
     (λ _. IsWrongOf (codes "--min") values.min (IsNoLimit (parse_spec values.kind values.ignore_case binary)) wrong))))))))

@@ -9,7 +9,7 @@ use Rattle.byte_unit_command.specs.Sums.{Counts}
 use Rattle.byte_unit_command.specs.declared.error.EndReason.{EndReason}
 use Rattle.byte_unit_command.specs.declared.error.EndReason.TheVariants.{Rejected, Total}
 use Rattle.byte_unit_command.specs.declared.options.Invalid.TheVariants.{Abort}
-use Rattle.byte_unit_stream.specs.Steps.{Relation}
+use Rattle.byte_unit_stream.specs.RecordSteps.{Relation}
 
 -- what is written for a record, with the end byte of the output after it; the messages about its fields; and the state
 -- after it, with what is found in the fields counted
@@ -23,7 +23,7 @@ pub record IsConverted (old : RunState) (bytes : List ℕ) (new : RunState) (out
   pub new_is : new ≡ record { context = next_context old.context; header = old.header - 1; tally = new.tally }
 
 -- in the mode `abort`, a record that is no header record has a rejected field; the messages are those up to it
-pub record IsRejected (old : RunState) (bytes : List ℕ) (reason : EndReason) (messages : List ℕ) : Type 0 where
+pub record IsRejectedRecord (old : RunState) (bytes : List ℕ) (reason : EndReason) (messages : List ℕ) : Type 0 where
   pub reason_is : reason ≡ Rejected
   pub mode : old.context.options.invalid ≡ Abort
   pub no_header : old.header ≡ 0
@@ -43,4 +43,4 @@ IsTooLarge state reason =
 
 -- the steps of a run
 abbrev pub converting : Relation RunState EndReason
-converting = record { step = IsConverted; ends = IsRejected; closes = IsTotalLine; fails = IsTooLarge }
+converting = record { step = IsConverted; ends = IsRejectedRecord; closes = IsTotalLine; fails = IsTooLarge }

@@ -10,7 +10,7 @@ use Rattle.byte_unit.specs.Errors.Fault.{Fault}
 use Rattle.byte_unit.specs.Grammar.Version.{current}
 use Rattle.byte_unit.specs.declared.ParseSpec.{ParseSpec}
 use Rattle.byte_unit_base.specs.declared.errors.LocatedError.{LocatedError}
-use Rattle.byte_unit_command.specs.Fields.{gap_of, columns_in}
+use Rattle.byte_unit_command.specs.Fields.{separating_blank, columns_in}
 use Rattle.byte_unit_command.specs.Formatted.{IsFormatted}
 use Rattle.byte_unit_command.specs.declared.options.Options.{Options}
 
@@ -68,4 +68,4 @@ Found = Option ℕ
 pub record IsPlaced (options : Options) (number : ℕ) (field : List ℕ) (size : ℕ) (text : List ℕ) : Type 0 where
   pub formatted : List ℕ
   pub is_formatted : IsFormatted (record options { width = columns_in options number field }) size formatted
-  pub text_is : text ≡ gap_of options number field ++ formatted
+  pub text_is : text ≡ separating_blank options number field ++ formatted

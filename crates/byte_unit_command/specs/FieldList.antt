@@ -6,21 +6,21 @@ use Rattle.byte_unit_command.specs.Ranges.{ChooseSame}
 use Rattle.byte_unit_command.specs.declared.options.FieldRange.{FieldRange}
 
 -- the first field of a range, before its hyphen: 1 if nothing is there
-abbrev pub IsFirst : List ℕ → ℕ → Type 0
-IsFirst [] first = first ≡ 1
-IsFirst (c ∷ cs) first = IsPositive (c ∷ cs) first
+abbrev pub IsRangeStart : List ℕ → ℕ → Type 0
+IsRangeStart [] first = first ≡ 1
+IsRangeStart (c ∷ cs) first = IsPositive (c ∷ cs) first
 
 -- the last field of a range, after its hyphen: there is none if nothing is there, and it is not before the first
-abbrev pub IsLast : List ℕ → ℕ → Option ℕ → Type 0
-IsLast [] first last = last ≡ None
-IsLast (c ∷ cs) first last = (number : ℕ) × IsPositive (c ∷ cs) number × (first ≤ number) × (last ≡ Some number)
+abbrev pub IsRangeEnd : List ℕ → ℕ → Option ℕ → Type 0
+IsRangeEnd [] first last = last ≡ None
+IsRangeEnd (c ∷ cs) first last = (number : ℕ) × IsPositive (c ∷ cs) number × (first ≤ number) × (last ≡ Some number)
 
 -- the text is this range: `N`, or `N-M`, where either number can be left out
 abbrev pub IsRange : List ℕ → FieldRange → Type 0
 IsRange text range =
     IsPositive text range.first × (range.last ≡ Some range.first)
-    ⊎ (before after : List ℕ) × (text ≡ before ++ 45 ∷ after) × IsFirst before range.first
-    × IsLast after range.first range.last
+    ⊎ (before after : List ℕ) × (text ≡ before ++ 45 ∷ after) × IsRangeStart before range.first
+    × IsRangeEnd after range.first range.last
 
 -- these texts are these ranges, in their order
 abbrev pub AreRanges : List (List ℕ) → List FieldRange → Type 0

@@ -52,13 +52,13 @@ EndsFirst separator bytes n =
     × (fields_by separator bytes ≡ take n bytes ∷ fields_by separator (drop next bytes))
 
 -- between blanks, the one that separates a field from the field before it
-abbrev pub gap_by : Option Separator → ℕ → List ℕ → List ℕ
-gap_by (Some Blanks) number field = cond (nat_lt 1 number) (take 1 field) []
-gap_by _ number field = []
+abbrev pub separating_blank_by : Option Separator → ℕ → List ℕ → List ℕ
+separating_blank_by (Some Blanks) number field = cond (nat_lt 1 number) (take 1 field) []
+separating_blank_by _ number field = []
 
 -- the blank that separates a field from the field before it, by the options
-abbrev pub gap_of : Options → ℕ → List ℕ → List ℕ
-gap_of options number field = gap_by options.separator number field
+abbrev pub separating_blank : Options → ℕ → List ℕ → List ℕ
+separating_blank options number field = separating_blank_by options.separator number field
 
 -- the columns of a field between blanks: its bytes but the blank that separates it. A first field has none if no blank
 -- is before it

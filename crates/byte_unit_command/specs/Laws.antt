@@ -19,8 +19,8 @@ IsLossless (NumberOf unit) = ⊥
 IsLossless (Largest unit_type) = ⊥
 
 -- the text is parsed as this size by a run with these options
-abbrev pub IsReadAs : Options → List ℕ → ℕ → Type 0
-IsReadAs options text size =
+abbrev pub IsParsedBy : Options → List ℕ → ℕ → Type 0
+IsParsedBy options text size =
     IsAcceptedAs options.spec current (without_suffix options.suffix.now text) size
 
 -- law: a size formatted in the exact form or as digits, without padding, is parsed as that size by a run with
@@ -30,7 +30,8 @@ abbrev pub FormattedSizesAreRead : Type 0
 FormattedSizesAreRead =
     (options others : Options) (size : ℕ) (text : List ℕ) → size < size_limit → IsLossless options.form
     → options.width ≡ 0 → others.spec.kind ≡ options.spec.kind → others.suffix.now ≡ options.suffix.now
-    → (others.spec.binary ≡ true → options.spec.binary ≡ true) → IsFormatted options size text → IsReadAs others text size
+    → (others.spec.binary ≡ true → options.spec.binary ≡ true) → IsFormatted options size text
+    → IsParsedBy others text size
 
 -- law: if a size formatted in the exact form, without padding, is parsed and formatted so once more, the text is the
 -- same. So a second run of `--to=exact` changes nothing, whatever prefixes mean
@@ -38,7 +39,7 @@ abbrev pub ExactTwiceIsOnce : Type 0
 ExactTwiceIsOnce =
     (options : Options) (size : ℕ) (text : List ℕ) → size < size_limit → options.form ≡ Exact → options.width ≡ 0
     → IsFormatted options size text → (again : ℕ) (text_again : List ℕ)
-    → IsReadAs options text again → IsFormatted options again text_again → text_again ≡ text
+    → IsParsedBy options text again → IsFormatted options again text_again → text_again ≡ text
 
 -- law: fields of the same size raise the total by their number times the size, or up to 10^30
 abbrev pub TotalsAddUp : Type 0

@@ -49,15 +49,15 @@ abbrev pub heading_text : Context → ℕ → List ℕ
 heading_text context number = record_text context ++ field_text context.options.separator number
 
 -- a message about the field with this number, in the record with this context
-abbrev pub IsMessage : Context → ℕ → List ℕ → FieldError → List ℕ → Type 0
-IsMessage context number field reason text =
+abbrev pub IsFieldMessage : Context → ℕ → List ℕ → FieldError → List ℕ → Type 0
+IsFieldMessage context number field reason text =
     (words : List ℕ) × AreWords reason words
     × (text ≡ heading_text context number ++ quoted_text field ++ words ++ 10 ∷ [])
 
 -- such a message if it is told, and else nothing
 abbrev pub IsMessageIf : Bool → Context → ℕ → List ℕ → FieldError → List ℕ → Type 0
 IsMessageIf told context number field reason text =
-    MatchBool told (IsMessage context number field reason text) (text ≡ [])
+    MatchBool told (IsFieldMessage context number field reason text) (text ≡ [])
 
 -- the messages about a size: that it is above the maximum, and that it is below the minimum
 abbrev pub AreLimitMessages : Context → ℕ → List ℕ → ℕ → List ℕ → Type 0
@@ -84,5 +84,5 @@ tells_rejected Ignore = false
 abbrev pub IsRejectMessage : Context → ℕ → List ℕ → List ℕ → Type 0
 IsRejectMessage context number field text =
     MatchBool (tells_rejected context.options.invalid)
-    ((reason : FieldError) × IsFieldError context.options field reason × IsMessage context number field reason text)
-    (text ≡ [])
+    ((reason : FieldError) × IsFieldError context.options field reason
+    × IsFieldMessage context number field reason text) (text ≡ [])

@@ -22,24 +22,26 @@ copied text = record { text = text; found = []; messages = [] }
 
 -- what the field with this number gives: a field that is not chosen is copied; a size is replaced by its text, with
 -- messages if it is beyond a limit; a field that is not a size is copied too, with the message about it
-pub data IsField (context : Context) (number : ℕ) (field : List ℕ) (output : Output) : Type 0 where
+pub data IsFieldOutput (context : Context) (number : ℕ) (field : List ℕ) (output : Output) : Type 0 where
   other : ¬ IsChosenField context.options.fields.now number → output ≡ copied field
-      → IsField context number field output
+      → IsFieldOutput context number field output
   size : (n : ℕ) (text messages : List ℕ) → IsChosenField context.options.fields.now number
       → IsSize context.options field n → IsPlaced context.options number field n text
       → AreLimitMessages context number field n messages
-      → output ≡ record { text = text; found = Some n ∷ []; messages = messages } → IsField context number field output
+      → output ≡ record { text = text; found = Some n ∷ []; messages = messages }
+      → IsFieldOutput context number field output
   rejected : (messages : List ℕ) → IsChosenField context.options.fields.now number → IsNoSize context.options field
       → IsRejectMessage context number field messages
-      → output ≡ record { text = field; found = None ∷ []; messages = messages } → IsField context number field output
+      → output ≡ record { text = field; found = None ∷ []; messages = messages }
+      → IsFieldOutput context number field output
 
 -- what these fields give, the first of which has this number
-abbrev pub AreFields : Context → ℕ → List (List ℕ) → List Output → Type 0
-AreFields context number [] [] = ⊤
-AreFields context number [] (output ∷ outputs) = ⊥
-AreFields context number (field ∷ fields) [] = ⊥
-AreFields context number (field ∷ fields) (output ∷ outputs) =
-    IsField context number field output × AreFields context (number + 1) fields outputs
+abbrev pub AreFieldOutputs : Context → ℕ → List (List ℕ) → List Output → Type 0
+AreFieldOutputs context number [] [] = ⊤
+AreFieldOutputs context number [] (output ∷ outputs) = ⊥
+AreFieldOutputs context number (field ∷ fields) [] = ⊥
+AreFieldOutputs context number (field ∷ fields) (output ∷ outputs) =
+    IsFieldOutput context number field output × AreFieldOutputs context (number + 1) fields outputs
 
 -- texts with these bytes between each two
 abbrev pub joined : List ℕ → List (List ℕ) → List ℕ
@@ -67,7 +69,7 @@ together between outputs = record {
 -- copied, and of any other the chosen fields are replaced
 abbrev pub IsRecord : Context → ℕ → List ℕ → Output → Type 0
 IsRecord context zero bytes output =
-    (outputs : List Output) × AreFields context 1 (fields_of context.options bytes) outputs
+    (outputs : List Output) × AreFieldOutputs context 1 (fields_of context.options bytes) outputs
     × (output ≡ together (between_of context.options) outputs)
 IsRecord context (suc _) bytes output = output ≡ copied bytes
 
@@ -80,9 +82,9 @@ pub record AreMessagesToRejected (context : Context) (number : ℕ) (fields : Li
   pub outputs : List Output
   pub own : Output
   pub fields_are : fields ≡ before ++ field ∷ after
-  pub are_fields : AreFields context number before outputs
+  pub are_fields : AreFieldOutputs context number before outputs
   pub none_before : has_rejected (found_in outputs) ≡ false
-  pub is_field : IsField context (number + length before) field own
+  pub is_field : IsFieldOutput context (number + length before) field own
   pub is_rejected : has_rejected own.found ≡ true
   pub messages_are : messages ≡ messages_in outputs ++ own.messages
 

@@ -12,8 +12,8 @@ use Rattle.byte_unit_stream.specs.Streams.{HasReadAll}
 use Rattle.byte_unit_stream.specs.declared.run.RunError.{RunError}
 
 -- the buffers of a run are empty
-abbrev pub AreEmpty : {A : Type 0} → RunBuffers A → Type 0
-AreEmpty buffers =
+abbrev pub AreEmptyRunBuffers : {A : Type 0} → RunBuffers A → Type 0
+AreEmptyRunBuffers buffers =
     (buffers.part.items ≡ []) × (buffers.converter.waiting.items ≡ [])
     × (buffers.converter.notices.messages.items ≡ [])
 

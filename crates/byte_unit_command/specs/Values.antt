@@ -14,8 +14,8 @@ abbrev pub kind_by_flag : Bool → Kind
 kind_by_flag bits = if bits then Bit else Byte
 
 -- the text of a value
-abbrev pub text_of : Option (Bor (List ℕ)) → Option (List ℕ)
-text_of value = option_map (λ text. text.now) value
+abbrev pub given_text : Option (Bor (List ℕ)) → Option (List ℕ)
+given_text value = option_map (λ text. text.now) value
 
 -- whether the option with this name, which takes no value, is given: clap has `true` as its value if it is
 pub record IsFlag (matches : ArgMatches) (name : List ℕ) (given : Bool) : Type 0 where
@@ -40,19 +40,19 @@ pub record HasValues (matches : ArgMatches) (values : Values) : Type 0 where
   pub kind : (bits : Bool) × IsFlag matches (codes "bits") bits × (values.kind ≡ kind_by_flag bits)
   pub ignore_case : IsFlag matches (codes "ignore-case") values.ignore_case
   pub human_readable : IsFlag matches (codes "human-readable") values.human_readable
-  pub from : text_of values.from ≡ first_value (found_of matches) (codes "from")
-  pub to : text_of values.to ≡ first_value (found_of matches) (codes "to")
+  pub from : given_text values.from ≡ first_value (found_of matches) (codes "from")
+  pub to : given_text values.to ≡ first_value (found_of matches) (codes "to")
   pub no_unit : IsFlag matches (codes "no-unit") values.no_unit
-  pub suffix : text_of values.suffix ≡ first_value (found_of matches) (codes "suffix")
+  pub suffix : given_text values.suffix ≡ first_value (found_of matches) (codes "suffix")
   pub precision : IsNumberValue 16 (one_text (found_of matches) (codes "precision")) values.precision
-  pub delimiter : text_of values.delimiter ≡ first_value (found_of matches) (codes "delimiter")
+  pub delimiter : given_text values.delimiter ≡ first_value (found_of matches) (codes "delimiter")
   pub blanks : IsFlag matches (codes "blanks") values.blanks
-  pub field : text_of values.field ≡ first_value (found_of matches) (codes "field")
+  pub field : given_text values.field ≡ first_value (found_of matches) (codes "field")
   pub header : IsNumberValue 64 (one_text (found_of matches) (codes "header")) values.header
-  pub padding : text_of values.padding ≡ first_value (found_of matches) (codes "padding")
-  pub invalid : text_of values.invalid ≡ first_value (found_of matches) (codes "invalid")
+  pub padding : given_text values.padding ≡ first_value (found_of matches) (codes "padding")
+  pub invalid : given_text values.invalid ≡ first_value (found_of matches) (codes "invalid")
   pub total : IsFlag matches (codes "total") values.total
-  pub max : text_of values.max ≡ first_value (found_of matches) (codes "max")
-  pub min : text_of values.min ≡ first_value (found_of matches) (codes "min")
+  pub max : given_text values.max ≡ first_value (found_of matches) (codes "max")
+  pub min : given_text values.min ≡ first_value (found_of matches) (codes "min")
   pub zero_terminated : IsFlag matches (codes "zero-terminated") values.zero_terminated
   pub has_operands : values.has_operands ≡ is_some (matched_of (found_of matches) (codes "SIZE"))

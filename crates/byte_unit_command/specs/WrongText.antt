@@ -26,12 +26,12 @@ AreReasonWords Mode words = words ≡ codes "not abort, fail, warn or ignore"
 AreReasonWords (Size error) words = AreErrorWords error words
 
 -- the value of an option as a field is quoted, or nothing if there is no value to tell
-abbrev pub value_text : Option (Bor (List ℕ)) → List ℕ
-value_text None = []
-value_text (Some value) = quoted_text value.now
+abbrev pub quoted_value : Option (Bor (List ℕ)) → List ℕ
+quoted_value None = []
+quoted_value (Some value) = quoted_text value.now
 
 -- the message, without its line end: the option, its value, and the words for the reason
 abbrev pub IsWrongMessage : Wrong → List ℕ → Type 0
 IsWrongMessage wrong message =
     (words : List ℕ) × AreReasonWords wrong.reason words
-    × (message ≡ wrong.option.now ++ codes ": " ++ value_text wrong.value ++ words)
+    × (message ≡ wrong.option.now ++ codes ": " ++ quoted_value wrong.value ++ words)

@@ -3,7 +3,7 @@
 ghost use Rattle.std.specs.Prelude.{◌≡◌, ◌+◌, ◌-◌, ◌<◌, ◌≤◌, ◌∷◌, ◌&&◌, [], Some, not};
 ghost use Rattle.std.specs.Prelude.{cond, drop, length, take, true, IfSome, IfNone};
 ghost use Rattle.byte_unit_command.specs.Fields.{EndsFirst, begins_blank as has_blank_first, between_by, blank_fields};
-ghost use Rattle.byte_unit_command.specs.Fields.{fields_by, gap_by, is_blank as is_a_blank, columns_by};
+ghost use Rattle.byte_unit_command.specs.Fields.{fields_by, separating_blank_by, is_blank as is_a_blank, columns_by};
 
 use crate::options::Separator;
 use byte_unit_stream::end_of;
@@ -51,8 +51,8 @@ pub(crate) fn columns_in(
 /// Returns the blank before a field that separates it from the field before it; nothing for the first field, and if
 /// fields are not between blanks.
 #[inline(always)]
-pub(crate) fn gap_of(separator: Option<Separator>, number: u64, field: &[u8]) -> &[u8]
-    ensures { result.now ≡ gap_by separator number field.now }
+pub(crate) fn separating_blank(separator: Option<Separator>, number: u64, field: &[u8]) -> &[u8]
+    ensures { result.now ≡ separating_blank_by separator number field.now }
 {
     match (separator, field) {
         (Some(Separator::Blanks), [_, ..]) if number > 1 => &field[..1],

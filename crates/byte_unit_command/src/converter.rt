@@ -6,10 +6,10 @@ ghost use Rattle.byte_unit_command.specs.Fields.{fields_of};
 ghost use Rattle.byte_unit_command.specs.Ranges.{AreApart, AreRangesFrom, GoesTo, InRange, IsChosenField};
 ghost use Rattle.byte_unit_command.specs.CallEnds.{Ends, IsEarlyAt, Keeps, TellsLimits, state_of};
 ghost use Rattle.byte_unit_command.specs.Converted.{converting};
-ghost use Rattle.byte_unit_stream.specs.Steps.{Adds};
+ghost use Rattle.byte_unit_stream.specs.RecordSteps.{Adds};
 ghost use Rattle.byte_unit_stream.specs.declared.run.RunError.{RunError};
 
-use crate::blanks::{between, columns_in, end_of_first, gap_of};
+use crate::blanks::{between, columns_in, end_of_first, separating_blank};
 use crate::error::{EndReason, RunError, RunResult};
 use crate::field_list::FieldList;
 use crate::notice::{Context, Notices, add_limit_notice, add_reject_notice};
@@ -159,7 +159,7 @@ impl<'a, A: Allocator> Converter<'a, A> {
         };
         self.count(number, field, size)?;
         self.waiting
-            .extend_from_slice(gap_of(separator, number, field))?;
+            .extend_from_slice(separating_blank(separator, number, field))?;
         let width = columns_in(separator, options.width, number, field);
         add_in_width(options, width, size, &mut self.digits, &mut self.waiting)?;
         Ok(())

@@ -4,7 +4,7 @@ ghost use Rattle.std.specs.Prelude.{ℕ, ◌+◌, ◌≤◌, ◌↔◌, ◌⊎�
 ghost use Rattle.std.specs.Prelude.{◌≡◌, codes, option_map, unwrap_or};
 ghost use Rattle.std.specs.List.{All};
 ghost use Rattle.std.specs.List.Sorted.{IsNonDecreasingBy};
-ghost use Rattle.byte_unit_command.specs.FieldList.{IsFirst, IsLast, IsRange, IsListReading};
+ghost use Rattle.byte_unit_command.specs.FieldList.{IsRangeStart, IsRangeEnd, IsRange, IsListReading};
 ghost use Rattle.byte_unit_command.specs.Positive.{IsPositive};
 ghost use Rattle.byte_unit_command.specs.Ranges.{AreApart, ChooseSame, HasField, InRange, IsAdded, IsApart};
 ghost use Rattle.byte_unit_command.specs.declared.options.FieldRange.{FieldRange};
@@ -198,7 +198,7 @@ fn range_of(item: &str) -> Option<FieldRange>
 
 /// Returns the first field of a range, from the text before its hyphen.
 fn first_of(before: &str) -> Option<u64>
-    ensures { MatchOption result ((first : ℕ) → ¬ IsFirst before.now first) (IsFirst before.now) }
+    ensures { MatchOption result ((first : ℕ) → ¬ IsRangeStart before.now first) (IsRangeStart before.now) }
 {
     if before.is_empty() {
         return Some(1);
@@ -209,7 +209,7 @@ fn first_of(before: &str) -> Option<u64>
 /// Returns the last field of a range that begins at `first`, from the text after its hyphen.
 fn last_of(after: &str, first: u64) -> Option<Option<u64>>
     ensures { MatchOption result
-        ((last : Option ℕ) → ¬ IsLast after.now first last) (IsLast after.now first) }
+        ((last : Option ℕ) → ¬ IsRangeEnd after.now first last) (IsRangeEnd after.now first) }
 {
     if after.is_empty() {
         return Some(None);

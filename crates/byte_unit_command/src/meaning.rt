@@ -9,7 +9,7 @@ ghost use Rattle.byte_unit_command.specs.Meaning.{IsFrom, IsOutputForm};
 ghost use Rattle.byte_unit_command.specs.Meaning.{IsUnitName, IsNoUnitName};
 ghost use Rattle.byte_unit_command.specs.Meaning.{IsPadding, IsWidth};
 ghost use Rattle.byte_unit_command.specs.Meaning.{IsMode, MeansNothing, IsLimit, IsNoLimit};
-ghost use Rattle.byte_unit_command.specs.Values.{text_of};
+ghost use Rattle.byte_unit_command.specs.Values.{given_text};
 ghost use Rattle.byte_unit_command.specs.declared.meaning.Padding.{Padding};
 ghost use Rattle.byte_unit_command.specs.declared.options.FieldRange.{FieldRange};
 
@@ -101,7 +101,7 @@ fn wrong<'a>(option: &'static str, value: &'a str, reason: ValueError) -> Wrong<
 ///
 /// Returns an error if the value is not one of the words that say how prefixes are read.
 fn from_of(value: Option<&str>) -> Result<bool, Wrong<'_>>
-    ensures ok { IfOk result (IsFrom (text_of value.entry)) }
+    ensures ok { IfOk result (IsFrom (given_text value.entry)) }
     ensures err { IfErr result
         (IsWrongOf (codes "--from") value.entry (MeansNothing IsFrom ValueError.From)) }
 {
@@ -259,7 +259,7 @@ fn listed<'a>(
 ///
 /// Returns an error if the value is not a number from 1 to 65535, or its negative.
 fn padding_of(value: Option<&str>) -> Result<Padding, Wrong<'_>>
-    ensures ok { IfOk result (IsPadding (text_of value.entry)) }
+    ensures ok { IfOk result (IsPadding (given_text value.entry)) }
     ensures err { IfErr result
         (IsWrongOf (codes "--padding") value.entry (MeansNothing IsPadding ValueError.Padding)) }
 {
@@ -306,7 +306,7 @@ fn width_of(digits: &str) -> Option<u16>
 ///
 /// Returns an error if the value is not the word for a mode.
 fn invalid_of(value: Option<&str>) -> Result<Invalid, Wrong<'_>>
-    ensures ok { IfOk result (IsMode (text_of value.entry)) }
+    ensures ok { IfOk result (IsMode (given_text value.entry)) }
     ensures err { IfErr result
         (IsWrongOf (codes "--invalid") value.entry (MeansNothing IsMode ValueError.Mode)) }
 {
@@ -332,7 +332,7 @@ fn limit_of<'a>(
     value: Option<&'a str>,
     spec: ParseSpec,
 ) -> Result<Option<u128>, Wrong<'a>>
-    ensures ok { IfOk result (IsLimit spec (text_of value.entry)) }
+    ensures ok { IfOk result (IsLimit spec (given_text value.entry)) }
     ensures err { IfErr result (IsWrongOf option.entry.now value.entry (IsNoLimit spec)) }
 {
     let Some(value) = value else {

@@ -4,7 +4,7 @@ ghost use Rattle.std.specs.Prelude.{◌≡◌, ◌++◌, List, ℕ, Option, OnOk
 ghost use Rattle.std.specs.String.{string_bytes};
 ghost use Rattle.byte_unit_command.specs.Field.{IsNoSize};
 ghost use Rattle.byte_unit_command.specs.Messages.{AreLimitMessages, AreWords, IsRejectMessage};
-ghost use Rattle.byte_unit_command.specs.Messages.{AreErrorWords, IsMessage, IsMessageIf, IsFieldError};
+ghost use Rattle.byte_unit_command.specs.Messages.{AreErrorWords, IsFieldMessage, IsMessageIf, IsFieldError};
 ghost use Rattle.byte_unit_command.specs.Messages.{heading_text, quoted_text, tells_rejected as has_rejected_told};
 ghost use Rattle.byte_unit_command.specs.CallEnds.{messages_of, context_of};
 ghost use Rattle.byte_unit_stream.specs.Beginnings.{IsBeginningOf};
@@ -165,7 +165,7 @@ fn add_message<A: Allocator>(
     notices: &mut Notices<A>,
 ) -> Result<(), AllocError>
     ensures ok { OnOk result ((text : List ℕ)
-        × IsMessage (context_of context.now) number field.now reason.now text
+        × IsFieldMessage (context_of context.now) number field.now reason.now text
         × (messages_of notices.new ≡ messages_of notices.old ++ text)) }
     ensures kept { IsBeginningOf (messages_of notices.old) (messages_of notices.new) }
 {

@@ -2,7 +2,7 @@
 //! step.
 
 ghost use Rattle.std.specs.Prelude.{◌^◌, ◌<◌, ◌≤◌, ◌+◌, length, IsTrue, IsErrOf};
-ghost use Rattle.byte_unit_command.specs.Run.{AreEmpty, IsRunOf};
+ghost use Rattle.byte_unit_command.specs.Run.{AreEmptyRunBuffers, IsRunOf};
 ghost use Rattle.byte_unit_stream.specs.Streams.{reading_failed, writing_failed};
 ghost use Rattle.byte_unit_stream.specs.declared.run.RunError.{RunError};
 
@@ -11,16 +11,14 @@ use crate::error::{EndReason, RunError, RunResult};
 use crate::notice::{Context, Notices};
 use crate::options::{Form, Invalid, Options};
 use crate::streams::Streams;
-use crate::tally::{TOTAL_LIMIT, Tally};
+use crate::tally::Tally;
 use crate::text::{DIGITS, add_in_width};
+use byte_unit_base::size::SIZE_LIMIT;
 use byte_unit_format::NARROW_TEXT;
 use byte_unit_math::EXPANSION_PLACES;
-use byte_unit_stream::run::{Steps, run_steps};
+use byte_unit_stream::run::{CHUNK, RecordSteps, run_steps};
 use std::alloc::{Allocator, Global};
 use std::io::{Read, Write};
-
-/// The number of bytes that [`run`] asks for in each read: 64 KiB, as many as a pipe of Linux holds by default.
-const CHUNK: usize = 65536;
 
 /// Reads the whole input, and writes each record, with the chosen fields replaced.
 ///
@@ -115,7 +113,7 @@ pub struct RunBuffers<'a, A: Allocator> {
 impl<'a, A: Allocator + Copy> RunBuffers<'a, A> {
     /// Creates empty buffers. Does not allocate.
     pub fn new(alloc: A, options: &'a Options<'a>) -> RunBuffers<'a, A>
-        ensures { AreEmpty result }
+        ensures { AreEmptyRunBuffers result }
     {
         RunBuffers {
             part: Vec::new(alloc),
@@ -139,7 +137,7 @@ impl<'a, A: Allocator + Copy> RunBuffers<'a, A> {
     }
 }
 
-impl<'a, A: Allocator> Steps for Converter<'a, A> {
+impl<'a, A: Allocator> RecordSteps for Converter<'a, A> {
     ghost use Rattle.byte_unit_command.specs.CallEnds.{state_of};
     ghost use Rattle.byte_unit_command.specs.Converted.{converting};
     ghost use Rattle.byte_unit_command.specs.State.{RunState};
@@ -177,7 +175,7 @@ impl<'a, A: Allocator> Steps for Converter<'a, A> {
             return Ok(());
         }
         let total = self.tally.total;
-        if total >= TOTAL_LIMIT {
+        if total >= SIZE_LIMIT {
             return Err(RunError::Ended(EndReason::Total));
         }
         let (width, waiting) = (options.width as usize, &mut self.waiting);
@@ -200,10 +198,9 @@ impl<'a, A: Allocator> Steps for Converter<'a, A> {
     }
 }
 
-/// The most bytes that the texts of the sizes of one read may take, if each byte of it begins a field: 40 bytes for
-/// each of 65,536. So [`run`] reads a whole chunk at once if no text is longer and no messages are
-/// counted.
-const TEXTS_MAX: usize = 2_621_440;
+/// The most bytes that the texts of the sizes of one read may take, if each byte of it begins a field: 40 for each byte
+/// of a chunk. So [`run`] reads a whole chunk at once if no text is longer and no messages are counted.
+const TEXTS_MAX: usize = 40 * CHUNK;
 
 /// The bytes that are counted for the messages about a field, in a run that can have more than one message. An
 /// estimate: it makes reads shorter, and bounds no message.

@@ -5,9 +5,7 @@ ghost use Rattle.byte_unit_command.specs.Sums.{Counts, is_beyond};
 ghost use Rattle.byte_unit_command.specs.declared.options.Options.{Options};
 
 use crate::options::Options;
-
-/// The limit of totals, 10^30, which is that of sizes. A total that reaches it stays there.
-pub(crate) const TOTAL_LIMIT: u128 = 1_000_000_000_000_000_000_000_000_000_000;
+use byte_unit_base::size::SIZE_LIMIT;
 
 /// What was counted in the fields that were converted.
 #[derive(Debug, Clone, Copy, PartialEq, Eq)]
@@ -33,7 +31,7 @@ impl Tally {
         ensures counts { Counts options.now self.old (Some size ∷ []) self.new }
         ensures beyond { result ≡ is_beyond options.now size }
     {
-        self.total = self.total.saturating_add(size).min(TOTAL_LIMIT);
+        self.total = self.total.saturating_add(size).min(SIZE_LIMIT);
         let beyond = options.max.is_some_and(|most| most < size)
             || options.min.is_some_and(|least| size < least);
         if beyond {

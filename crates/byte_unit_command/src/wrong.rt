@@ -2,7 +2,7 @@
 
 ghost use Rattle.std.specs.Prelude.{◌≡◌, ◌++◌, List, ℕ, OnOk, IfOk};
 ghost use Rattle.std.specs.String.{string_bytes};
-ghost use Rattle.byte_unit_command.specs.WrongText.{AreReasonWords, IsWrongMessage, value_text};
+ghost use Rattle.byte_unit_command.specs.WrongText.{AreReasonWords, IsWrongMessage, quoted_value};
 
 use crate::notice::{add_error, add_quoted};
 use byte_unit::UnitParseError;
@@ -75,7 +75,7 @@ impl<'a> Wrong<'a> {
 /// Returns `AllocError` if allocation fails.
 fn add_value(value: Option<&str>, message: &mut String) -> Result<(), AllocError>
     ensures { OnOk result
-        (string_bytes message.new ≡ string_bytes message.old ++ value_text value.entry) }
+        (string_bytes message.new ≡ string_bytes message.old ++ quoted_value value.entry) }
 {
     match value {
         None => Ok(()),

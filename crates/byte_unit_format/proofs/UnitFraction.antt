@@ -22,7 +22,7 @@ use Rattle.byte_unit_base.specs.declared.kind.Kind.{Kind}
 use Rattle.byte_unit_base.proofs.Names.{with_prefix}
 use Rattle.byte_unit_format.specs.Forms.{IsSizeForm}
 use Rattle.byte_unit_format.specs.NamedSpecs.{alternate_spec}
-use Rattle.byte_unit_format.specs.UnitFraction.{thousandths_text, thousandths_of, unit_of}
+use Rattle.byte_unit_format.specs.UnitFraction.{thousandths_text, thousandths_of, fraction_unit}
 use Rattle.byte_unit_format.specs.UnitFraction.{unit_fraction_text, IsProperFraction, IsSplit}
 use Rattle.byte_unit_format.specs.declared.form.split.UnitFraction.{UnitFraction}
 use Rattle.byte_unit_format.specs.declared.form.split.UnitFraction.TheVariants.{Own, Eighths, Thousandths}
@@ -67,7 +67,7 @@ pub form_of_split : (kind : Kind) (size whole : ℕ) (fraction : UnitFraction) �
     → IsSplit kind size whole fraction
     → IsSizeForm kind size alternate_spec (decimal whole ++ unit_fraction_text kind fraction)
 form_of_split kind size whole fraction known split =
-    form_of_thousandths kind size whole (thousandths_of fraction) (unit_of kind fraction)
+    form_of_thousandths kind size whole (thousandths_of fraction) (fraction_unit kind fraction)
     (thousandths_below fraction known) split.recovered split.value
 
 -- A space, the letter of a prefix, an `i` if it is binary, and the letter of the kind are a space and the unit's name.

@@ -3,7 +3,8 @@
 use Rattle.std.specs.Prelude.{◌≡◌, ◌≢◌, ℕ, ◌+◌, ◌-◌, ◌*◌, ◌<◌, ◌⊎◌, max, Bool, false, List, length}
 use Rattle.std.specs.Fmt.{decimal}
 use Rattle.byte_unit_math.specs.Bounds.{places_of_decimal, expansion_places}
-use Rattle.byte_unit_math.specs.Exact.{IsExactAt, IsLeastPlaces}
+use Rattle.byte_unit_math.specs.Exact.{IsExactAt}
+pub use Rattle.byte_unit_math.specs.NumberLaws.{ZeroTakesNoPlaces}
 use Rattle.byte_unit_math.specs.Powers.{TakesLackingPlaces}
 use Rattle.byte_unit_base.specs.Grammar.Shape.{Shape, bits, twos, fives}
 use Rattle.byte_unit_base.specs.Grammar.Version.{Version, current}
@@ -111,10 +112,6 @@ AdjustedStringReadsBack =
 abbrev pub PlacesOfSize : Type 0
 PlacesOfSize =
     (kind : Kind) (size : ℕ) (unit : Shape) → TakesLackingPlaces (size * bits_in kind) (twos unit) (fives unit)
-
--- Zero takes no digits after the point in any unit.
-abbrev pub ZeroTakesNoPlaces : Type 0
-ZeroTakesNoPlaces = (unit : Shape) → IsLeastPlaces 0 (bits unit) 0
 
 -- The most digits after the point that a size takes in a unit: 93 in bits, and 90 in bytes, since a byte is 2^3 bits.
 abbrev pub most_places : Kind → ℕ

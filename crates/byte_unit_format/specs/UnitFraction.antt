@@ -16,10 +16,10 @@ abbrev pub thousandths_text : ℕ → List ℕ
 thousandths_text thousandths = fraction_text (trim_zeros (last_digits 3 thousandths))
 
 -- The unit of the kind that it is a fraction of.
-abbrev pub unit_of : Kind → UnitFraction → Shape
-unit_of kind Own = own_unit kind
-unit_of kind (Eighths eighths power) = shape power true (counts_bits kind)
-unit_of kind (Thousandths thousandths power) = shape power false (counts_bits kind)
+abbrev pub fraction_unit : Kind → UnitFraction → Shape
+fraction_unit kind Own = own_unit kind
+fraction_unit kind (Eighths eighths power) = shape power true (counts_bits kind)
+fraction_unit kind (Thousandths thousandths power) = shape power false (counts_bits kind)
 
 -- The thousandths of a unit.
 abbrev pub thousandths_of : UnitFraction → ℕ
@@ -30,13 +30,13 @@ thousandths_of (Thousandths thousandths power) = thousandths
 -- The digits after the point, a space, and the unit's name.
 abbrev pub unit_fraction_text : Kind → UnitFraction → List ℕ
 unit_fraction_text kind fraction =
-    thousandths_text (thousandths_of fraction) ++ 32 ∷ unit_name_in current (unit_of kind fraction)
+    thousandths_text (thousandths_of fraction) ++ 32 ∷ unit_name_in current (fraction_unit kind fraction)
 
 -- Whole units and thousandths of one are the size, in its largest unit within three digits after the point.
 pub record IsSplit (kind : Kind) (size whole : ℕ) (fraction : UnitFraction) : Type 0 where
-  pub recovered : IsRecoveredIn current kind false size 3 (unit_of kind fraction)
+  pub recovered : IsRecoveredIn current kind false size 3 (fraction_unit kind fraction)
   -- a thousandth, scaled by 10^28, is 10^25
-  pub value : (whole * scale + thousandths_of fraction * 10 ^ 25) * bits (unit_of kind fraction)
+  pub value : (whole * scale + thousandths_of fraction * 10 ^ 25) * bits (fraction_unit kind fraction)
       ≡ size * bits_in kind * scale
 
 -- The prefix is one of the nine, and the eighths or thousandths are less than a unit.

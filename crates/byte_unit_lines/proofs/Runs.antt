@@ -13,7 +13,7 @@ use Rattle.byte_unit_lines.proofs.Answering.{AreAnswers-append, lines_have_answe
 use Rattle.byte_unit_stream.specs.Beginnings.{IsBeginningOf}
 use Rattle.byte_unit_stream.specs.Chunks.{begun_record, nonempty_record}
 use Rattle.byte_unit_stream.specs.Runs.{IsLeft}
-use Rattle.byte_unit_stream.specs.Steps.{AreSteps, IsAll, IsFirst, Progress, start_at}
+use Rattle.byte_unit_stream.specs.RecordSteps.{AreSteps, IsAll, IsSomeFirst, Progress, start_at}
 use Rattle.byte_unit_stream.specs.declared.run.RunError.{RunError}
 use Rattle.byte_unit_stream.specs.declared.run.RunError.TheVariants.{Memory, Read, Write, Ended}
 use Rattle.byte_unit_stream.proofs.ChunkRecords.{records_of-begun}
@@ -52,7 +52,7 @@ module _ (kind : Kind) where
 
   -- the output of the first of these lines is their answers
   AnswerFirst-first : (lines : List (List ℕ)) (out messages : List ℕ)
-      → IsFirst answering lines (start_at kind) out messages → AnswerFirst kind lines out
+      → IsSomeFirst answering lines (start_at kind) out messages → AnswerFirst kind lines out
   AnswerFirst-first lines out messages at =
       (at.first, at.is_beginning, AreAnswers-all at.first out messages at.all)
 

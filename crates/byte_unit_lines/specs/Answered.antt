@@ -2,7 +2,7 @@
 use Rattle.std.specs.Prelude.{◌≡◌, ℕ, List, [], ◌++◌}
 use Rattle.std.specs.declared.convert.Infallible.{Infallible}
 use Rattle.byte_unit_lines.specs.Answer.{Kind, IsAnswer}
-use Rattle.byte_unit_stream.specs.Steps.{Relation}
+use Rattle.byte_unit_stream.specs.RecordSteps.{Relation}
 
 -- the answer to the line was appended
 abbrev pub AddsAnswer : Kind → List ℕ → List ℕ → List ℕ → Type 0

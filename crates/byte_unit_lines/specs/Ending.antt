@@ -22,20 +22,20 @@ IsWrittenAtEnding kind read (Failed error) written = IsWritten kind read (Err er
 IsWrittenAtEnding kind read Usage written = ⊥
 
 -- the exit status
-abbrev pub status_of : Ending → ℕ
-status_of Done = 0
-status_of (Failed _) = 1
-status_of Usage = 2
+abbrev pub status_of_ending : Ending → ℕ
+status_of_ending Done = 0
+status_of_ending (Failed _) = 1
+status_of_ending Usage = 2
 
 -- the line for standard error, without its line end, if a run fails with this error. No line ends a run
-abbrev pub message_of : RunError Infallible → List ℕ
-message_of Memory = codes "out of memory"
-message_of Read = codes "read failed"
-message_of Write = codes "write failed"
-message_of (Ended _) = []
+abbrev pub failure_line : RunError Infallible → List ℕ
+failure_line Memory = codes "out of memory"
+failure_line Read = codes "read failed"
+failure_line Write = codes "write failed"
+failure_line (Ended _) = []
 
 -- the line for standard error, without its line end; `None` if all lines are answered
 abbrev pub line_of : Ending → Option (List ℕ)
 line_of Done = None
-line_of (Failed error) = Some (message_of error)
+line_of (Failed error) = Some (failure_line error)
 line_of Usage = Some (codes "usage: byte_unit_lines [byte|bit]")

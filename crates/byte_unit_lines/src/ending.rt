@@ -2,7 +2,7 @@
 
 ghost use Rattle.std.specs.Prelude.{◌≡◌, ℕ, List, map, option_map, IsTrue, IfSome};
 ghost use Rattle.std.specs.String.{string_bytes};
-ghost use Rattle.byte_unit_lines.specs.Ending.{AskFor, IsWrittenAtEnding, status_of, message_of, line_of};
+ghost use Rattle.byte_unit_lines.specs.Ending.{AskFor, IsWrittenAtEnding, status_of_ending, failure_line, line_of};
 ghost use Rattle.byte_unit_stream.specs.Streams.{HasRead, HasReadAll, reading_failed};
 ghost use Rattle.byte_unit_stream.specs.Streams.{HasWritten, writing_failed};
 ghost use Rattle.byte_unit_stream.specs.declared.run.RunError.{RunError};
@@ -27,7 +27,7 @@ pub enum Ending {
 impl Ending {
     /// Returns the exit status: 0 if all lines were answered, 1 if the run failed, 2 if the arguments are invalid.
     pub fn status(self) -> u8
-        ensures { result ≡ status_of self }
+        ensures { result ≡ status_of_ending self }
     {
         match self {
             Ending::Done => 0,
@@ -50,7 +50,7 @@ impl Ending {
 
 /// Returns the line for standard error, without its line end, if a run fails with this error.
 pub fn fault_words(error: RunError) -> &'static str
-    ensures { result.now ≡ message_of error }
+    ensures { result.now ≡ failure_line error }
 {
     match error {
         RunError::Memory => "out of memory",

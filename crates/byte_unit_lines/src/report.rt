@@ -9,7 +9,7 @@ ghost use Rattle.byte_unit_stream.specs.declared.run.RunError.{RunError};
 use crate::laws::each_line_has_an_answer;
 use crate::line::add_answer;
 use byte_unit::Kind;
-use byte_unit_stream::run::{self, Steps, run_steps};
+use byte_unit_stream::run::{self, CHUNK, RecordSteps, run_steps};
 use byte_unit_stream::{Reading, Writing};
 use std::alloc::{Allocator, Global};
 use std::convert::Infallible;
@@ -17,9 +17,6 @@ use std::io::{self, Read, Write};
 
 /// The byte that ends a line.
 const LINE_END: u8 = b'\n';
-
-/// The number of bytes that [`run`] asks for in each read: 64 KiB, as many as a pipe of Linux holds by default.
-const CHUNK: usize = 65536;
 
 /// The reason why a run ended before the end of its input. No line is one.
 pub type RunError = run::RunError<Infallible>;
@@ -33,7 +30,7 @@ pub(crate) struct Answers<A: Allocator> {
     pub(crate) waiting: Vec<u8, A>,
 }
 
-impl<A: Allocator> Steps for Answers<A> {
+impl<A: Allocator> RecordSteps for Answers<A> {
     ghost use Rattle.std.specs.Prelude.{[]};
     ghost use Rattle.byte_unit_lines.specs.Answer.{Kind};
     ghost use Rattle.byte_unit_lines.specs.Answered.{answering};

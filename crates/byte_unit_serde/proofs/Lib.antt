@@ -1,2 +1,2 @@
-pub mod Reading
-pub mod Writing
+pub mod ReadSequences
+pub mod WrittenSequences

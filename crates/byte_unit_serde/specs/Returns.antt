@@ -15,7 +15,7 @@ use Rattle.byte_unit.specs.declared.ParseError.{ParseError}
 use Rattle.byte_unit.specs.declared.Unit.{Unit as UnitName}
 use Rattle.byte_unit.specs.declared.UnitParseError.{UnitParseError}
 use Rattle.byte_unit_serde.specs.Messages.{IsMessage, reason_of}
-use Rattle.byte_unit_serde.specs.Serialized.{ReadsString, ReadsEach}
+use Rattle.byte_unit_serde.specs.Serialized.{ReadsValue, ReadsEach}
 
 -- A relation of what is read or written before a call, of what the call returns, and of what is read or written after
 -- it.
@@ -42,10 +42,10 @@ Converting {D} {E} {A} call Converts old result new =
 
 -- The string that the format gives is parsed in this way: its value is returned, or the error that is made of a message
 -- with the reason and the string.
-abbrev pub Reading :
+abbrev pub ReadingValue :
     {D E A : Type 0} → (List ℕ → Result A (List ℕ) → Type 0) → Returns D (List ℕ) E → (D → List ℕ → E → Type 0)
     → Returns D A E
-Reading {D} {E} {A} Parses string_returns rejects = Converting string_returns (λ bytes from result.
+ReadingValue {D} {E} {A} Parses string_returns rejects = Converting string_returns (λ bytes from result.
     (parsed : Result A (List ℕ)) × Parses bytes parsed × MatchResult parsed
     (λ value. result ≡ Ok value)
     (λ reason. (message : List ℕ) × (error : E) × IsMessage reason bytes message × rejects from message error
@@ -64,9 +64,9 @@ ParsesUnit bytes parsed = (reading : Result UnitName UnitParseError) × IsUnitRe
 -- `None` is returned if the format gives nothing, and else what is read.
 abbrev pub ReadingOption :
     {D E A : Type 0} → Returns D Bool E → Returns D A E → Returns D (Option A) E
-ReadingOption none_returns Reading = AndThen none_returns (λ is_none old result new. MatchBool is_none
+ReadingOption none_returns ReadingItem = AndThen none_returns (λ is_none old result new. MatchBool is_none
     (Returning None old result new)
-    (Converting Reading (λ value from read. read ≡ Ok (Some value)) old result new))
+    (Converting ReadingItem (λ value from read. read ≡ Ok (Some value)) old result new))
 
 -- The error of a sequence: the format's own error at its beginning, or, after the values that were read, the format's
 -- own error at the next item, that of reading the item, or that of a failed allocation after it was read.
@@ -75,14 +75,14 @@ abbrev pub IsListError :
     → Returns (Deserializer F E M) Unit E → Returns (Deserializer F E M) Bool E
     → Returns (Deserializer F E M) A E → (Deserializer F E M → E → Type 0)
     → Deserializer F E M → Deserializer F E M → E → Type 0
-IsListError {A} {F} {E} {M} Means gives stays begin_returns next_returns Reading runs_out old new error =
+IsListError {A} {F} {E} {M} Means gives stays begin_returns next_returns ReadingItem runs_out old new error =
     begin_returns old (Err error) new
     ⊎ ((first last : Deserializer F E M) × (values : List A) × Gives gives old (seq_begins None) first
     × ReadsEach Means gives stays first last values
     × (next_returns last (Err error) new
-    ⊎ ((looked : Deserializer F E M) × Stays stays last looked × Reading looked (Err error) new)
+    ⊎ ((looked : Deserializer F E M) × Stays stays last looked × ReadingItem looked (Err error) new)
     ⊎ ((looked : Deserializer F E M) × (value : A) × Stays stays last looked
-    × ReadsString Means gives looked new value × runs_out new error)))
+    × ReadsValue Means gives looked new value × runs_out new error)))
 
 -- A string of the size of this form is written.
 abbrev pub WritingSizeAs :

@@ -30,10 +30,10 @@ abbrev pub SpellsUnit : List ℕ → UnitName → Type 0
 SpellsUnit bytes unit = Spells current (flags_of false true) (trim_of bytes) (shape_of unit)
 
 -- The format gave a string that has this meaning.
-abbrev pub ReadsString :
+abbrev pub ReadsValue :
     {A F E M : Type 0} → (List ℕ → A → Type 0) → (F → List ℕ → Event → F → Type 0)
     → Deserializer F E M → Deserializer F E M → A → Type 0
-ReadsString Means gives old new value = (bytes : List ℕ) × Means bytes value × Gives gives old (text bytes) new
+ReadsValue Means gives old new value = (bytes : List ℕ) × Means bytes value × Gives gives old (text bytes) new
 
 -- The format gave nothing (`None`), or, perhaps after a look, a string that has this meaning.
 abbrev pub ReadsOption :
@@ -49,7 +49,7 @@ abbrev pub ReadsEach :
     → Deserializer F E M → Deserializer F E M → List A → Type 0
 ReadsEach Means gives stays old new [] = new ≡ old
 ReadsEach {A} {F} {E} {M} Means gives stays old new (value ∷ values) =
-    (looked next : Deserializer F E M) × Stays stays old looked × ReadsString Means gives looked next value
+    (looked next : Deserializer F E M) × Stays stays old looked × ReadsValue Means gives looked next value
     × ReadsEach Means gives stays next new values
 
 -- The format gave a sequence of strings that have these meanings, from its beginning to its end.

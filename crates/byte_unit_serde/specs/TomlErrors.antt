@@ -10,12 +10,12 @@ use Rattle.byte_unit_serde.specs.declared.toml_values.TomlUnitError.{TomlUnitErr
 use Rattle.byte_unit_serde.specs.declared.toml_values.TomlUnitError.TheVariants.{NotString as NoUnitString, Unit as UnitFault}
 
 -- The two errors of reading a size from TOML: the value is no string, or the string is no size.
-abbrev pub size_errors : JsonErrors ParseError TomlSizeError
-size_errors = record { not_string = NotString; of_text = Parse }
+abbrev pub toml_size_errors : JsonErrors ParseError TomlSizeError
+toml_size_errors = record { not_string = NotString; of_text = Parse }
 
 -- The two errors of reading a unit from TOML: the value is no string, or the string is no unit.
-abbrev pub unit_errors : JsonErrors UnitParseError TomlUnitError
-unit_errors = record { not_string = NoUnitString; of_text = UnitFault }
+abbrev pub toml_unit_errors : JsonErrors UnitParseError TomlUnitError
+toml_unit_errors = record { not_string = NoUnitString; of_text = UnitFault }
 
 -- The message of an error of reading a size.
 abbrev pub size_text : TomlSizeError → Option (List ℕ)

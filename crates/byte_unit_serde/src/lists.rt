@@ -3,7 +3,7 @@
 ghost use Rattle.std.specs.Prelude.{◌≡◌, ◌∷◌, [], ◌++◌, ◌≤◌, ◌<◌, ◌^◌, length, vec_len, vec_capacity};
 ghost use Rattle.std.specs.Prelude.{IfErr, IfOk, OnErr, OnOk};
 ghost use Rattle.serde.specs.Event.{WritesSeq};
-ghost use Rattle.byte_unit_serde.specs.Returns.{IsListError, Reading, WritingList};
+ghost use Rattle.byte_unit_serde.specs.Returns.{IsListError, ReadingValue, WritingList};
 ghost use Rattle.byte_unit_serde.specs.Serialized.{ReadsSeq};
 
 use crate::strings::{DeserializeString, SerializeString, Strings};
@@ -50,7 +50,7 @@ impl<W, R: DeserializeString> Lists<W, R> {
             ReadsSeq R.means F.gives F.stays from.old from.new values.items) }
         ensures error { IfErr result
             (IsListError R.means F.gives F.stays F.begin_returns F.next_returns
-            (Reading R.parses F.string_returns F.rejects) F.runs_out from.old from.new) }
+            (ReadingValue R.parses F.string_returns F.rejects) F.runs_out from.old from.new) }
     {
         F::begin_list(from)?;
         let mut items = Vec::new(alloc);

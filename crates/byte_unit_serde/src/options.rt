@@ -2,7 +2,7 @@
 
 ghost use Rattle.std.specs.Prelude.{IfOk, OnOk};
 ghost use Rattle.serde.specs.Event.{WritesOption};
-ghost use Rattle.byte_unit_serde.specs.Returns.{Reading, ReadingOption, WritingOption};
+ghost use Rattle.byte_unit_serde.specs.Returns.{ReadingValue, ReadingOption, WritingOption};
 ghost use Rattle.byte_unit_serde.specs.Serialized.{ReadsOption};
 
 use crate::strings::{DeserializeString, SerializeString, Strings};
@@ -44,7 +44,7 @@ impl<W, R: DeserializeString> OptionalStrings<W, R> {
         from: &mut Deserializer<'_, '_, F>,
     ) -> Result<Option<R::Value>, F::Error>
         ensures option { IfOk result (ReadsOption R.means F.gives F.stays from.old from.new) }
-        ensures exact { ReadingOption F.none_returns (Reading R.parses F.string_returns F.rejects)
+        ensures exact { ReadingOption F.none_returns (ReadingValue R.parses F.string_returns F.rejects)
             from.old result from.new }
     {
         if F::read_none(from)? {

@@ -1,7 +1,7 @@
 //! Sizes and units that are stored as strings, as items of collections.
 
 ghost use Rattle.std.specs.Prelude.{IfOk};
-ghost use Rattle.byte_unit_serde.specs.Serialized.{ReadsString};
+ghost use Rattle.byte_unit_serde.specs.Serialized.{ReadsValue};
 
 use crate::strings::{DeserializeString, SerializeString, Strings};
 use serde::{
@@ -38,7 +38,7 @@ impl<T: DeserializeString<Value = T> + Drop> DeserializeOwned for Stored<T> {
         alloc: Global,
         from: &mut Deserializer<'_, '_, F>,
     ) -> Result<Stored<T>, F::Error>
-        ensures { IfOk result (λ stored. ReadsString T.means F.gives from.old from.new stored.0) }
+        ensures { IfOk result (λ stored. ReadsValue T.means F.gives from.old from.new stored.0) }
     {
         Ok(Stored(Strings::<T>::deserialize(alloc, from)?))
     }
@@ -49,7 +49,7 @@ impl<'de, T: DeserializeString<Value = T> + Drop> Deserialize<'de> for Stored<T>
         alloc: Global,
         from: &mut Deserializer<'de, '_, F>,
     ) -> Result<Stored<T>, F::Error>
-        ensures { IfOk result (λ stored. ReadsString T.means F.gives from.old from.new stored.0) }
+        ensures { IfOk result (λ stored. ReadsValue T.means F.gives from.old from.new stored.0) }
     {
         DeserializeOwned::deserialize_owned(alloc, from)
     }

@@ -3,8 +3,8 @@
 ghost use Rattle.std.specs.Prelude.{◌≤◌, ℕ, List, Result, length, IfErr, IfOk, OnOk};
 ghost use Rattle.std.specs.Result.{result_map_both};
 ghost use Rattle.serde.specs.Event.{Log};
-ghost use Rattle.byte_unit_serde.specs.Returns.{Reading, Returns};
-ghost use Rattle.byte_unit_serde.specs.Serialized.{ReadsString};
+ghost use Rattle.byte_unit_serde.specs.Returns.{ReadingValue, Returns};
+ghost use Rattle.byte_unit_serde.specs.Serialized.{ReadsValue};
 
 use crate::messages::message_for;
 use crate::{Sink, Source};
@@ -40,8 +40,8 @@ impl<W, R: DeserializeString> Strings<W, R> {
         alloc: Global,
         from: &mut Deserializer<'_, '_, F>,
     ) -> Result<R::Value, F::Error>
-        ensures string { IfOk result (ReadsString R.means F.gives from.old from.new) }
-        ensures exact { Reading R.parses F.string_returns F.rejects from.old result from.new }
+        ensures string { IfOk result (ReadsValue R.means F.gives from.old from.new) }
+        ensures exact { ReadingValue R.parses F.string_returns F.rejects from.old result from.new }
     {
         let text = F::read_string(alloc, from)?;
         match R::parse_string(text.as_str()) {

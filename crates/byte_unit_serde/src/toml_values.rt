@@ -6,7 +6,7 @@ ghost use Rattle.toml.specs.View.{view};
 ghost use Rattle.byte_unit.specs.Reading.Results.{ReadsString, IsUnitReading, IsSizeReading};
 ghost use Rattle.byte_unit.specs.Grammar.Spelling.{flags_of};
 ghost use Rattle.byte_unit.specs.declared.Kind.TheVariants.{Bit as InBits, Byte as InBytes};
-ghost use Rattle.byte_unit_serde.specs.TomlErrors.{size_errors, size_text, unit_error_text, unit_errors};
+ghost use Rattle.byte_unit_serde.specs.TomlErrors.{size_text, toml_size_errors, toml_unit_errors, unit_error_text};
 
 use byte_unit::{Bit, Byte, ParseError, Unit, UnitParseError};
 use std::error::Error;
@@ -88,7 +88,7 @@ impl Error for TomlUnitError {}
 /// }
 /// ```
 pub fn byte_from_toml(value: &Value) -> Result<Byte, TomlSizeError>
-    ensures { ReadsString size_errors (IsSizeReading InBytes false)
+    ensures { ReadsString toml_size_errors (IsSizeReading InBytes false)
         (as_str (view value.now)) result }
 {
     let text = value.as_str().ok_or(TomlSizeError::NotString)?;
@@ -111,7 +111,7 @@ pub fn byte_from_toml(value: &Value) -> Result<Byte, TomlSizeError>
 /// assert_eq!(rt; bit_from_toml(&table["rate"])?, Bit::from_u64(8_000_000));
 /// ```
 pub fn bit_from_toml(value: &Value) -> Result<Bit, TomlSizeError>
-    ensures { ReadsString size_errors (IsSizeReading InBits false)
+    ensures { ReadsString toml_size_errors (IsSizeReading InBits false)
         (as_str (view value.now)) result }
 {
     let text = value.as_str().ok_or(TomlSizeError::NotString)?;
@@ -135,7 +135,7 @@ pub fn bit_from_toml(value: &Value) -> Result<Bit, TomlSizeError>
 /// assert_eq!(rt; unit_from_toml(&table["unit"])?, Unit::Kbit);
 /// ```
 pub fn unit_from_toml(value: &Value) -> Result<Unit, TomlUnitError>
-    ensures { ReadsString unit_errors (IsUnitReading (flags_of false true))
+    ensures { ReadsString toml_unit_errors (IsUnitReading (flags_of false true))
         (as_str (view value.now)) result }
 {
     let text = value.as_str().ok_or(TomlUnitError::NotString)?;

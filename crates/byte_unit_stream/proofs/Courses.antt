@@ -4,7 +4,7 @@ use Rattle.std.proofs.Common.{◌≡◌, ℕ, Bool, true, false, List, [], ◌++
 use Rattle.std.proofs.KnownBytes.{Appends-nil, Appends-trans, Consumes-kept, Consumes-nil, Consumes-trans}
 use Rattle.byte_unit_stream.specs.Beginnings.{IsBeginningOf}
 use Rattle.byte_unit_stream.specs.Runs.{Course, HasTold, IsTold}
-use Rattle.byte_unit_stream.specs.Steps.{Progress, Relation, start_at}
+use Rattle.byte_unit_stream.specs.RecordSteps.{Progress, Relation, start_at}
 use Rattle.byte_unit_stream.specs.Streams.{HasRead, HasReadNothing, HasWritten, reader_of, writer_of, writing_failed}
 use Rattle.byte_unit_stream.specs.declared.reader.Reading.{Reading}
 use Rattle.byte_unit_stream.specs.declared.writer.Writing.{Writing}

@@ -2,6 +2,6 @@ pub mod Bytes
 pub mod Ends
 pub mod ChunkRecords
 pub mod Beginnings
-pub mod Steps
+pub mod RecordSteps
 pub mod Runs
 pub mod Courses

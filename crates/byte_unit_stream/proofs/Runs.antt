@@ -6,13 +6,13 @@ use Rattle.byte_unit_stream.specs.Beginnings.{IsBeginningOf}
 use Rattle.byte_unit_stream.specs.Chunks.{ended_records, begun_record, nonempty_record}
 use Rattle.byte_unit_stream.specs.Records.{records_of, finished_records}
 use Rattle.byte_unit_stream.specs.Runs.{IsEnd, IsLeft}
-use Rattle.byte_unit_stream.specs.Steps.{AreConverted, AreSteps, IsAll, IsFirst, IsStep, IsStopped, Progress, Relation}
-use Rattle.byte_unit_stream.specs.Steps.{start_at}
+use Rattle.byte_unit_stream.specs.RecordSteps.{AreConverted, AreSteps, IsAll, IsEndedEarly, IsSomeFirst, IsStep}
+use Rattle.byte_unit_stream.specs.RecordSteps.{Progress, Relation, start_at}
 use Rattle.byte_unit_stream.specs.declared.run.RunError.{RunError}
 use Rattle.byte_unit_stream.specs.declared.run.RunError.TheVariants.{Memory, Read, Write, Ended}
 use Rattle.byte_unit_stream.proofs.Beginnings.{IsBeginningOf-after}
 use Rattle.byte_unit_stream.proofs.ChunkRecords.{finished_records-piece, begun_record-piece, records_of-begun}
-use Rattle.byte_unit_stream.proofs.Steps.{AreConverted-failed, AreConverted-then, IsFirst-converted, behind}
+use Rattle.byte_unit_stream.proofs.RecordSteps.{AreConverted-failed, AreConverted-then, IsSomeFirst-converted, behind}
 
 -- between two reads: the finished records of what was read are converted, and the rest is the unfinished record
 pub record IsServed {S E : Type 0} (relation : Relation S E) (end : ℕ) (start : S) (read written messages part : List ℕ)
@@ -89,7 +89,7 @@ module _ {S E : Type 0} {relation : Relation S E} {end : ℕ} {start state : S} 
         → AreConverted relation ended (start_at state) new result → (more : List ℕ) → IsBeginningOf more new.out
         → IsLeft relation end start (read ++ piece) complete (Err Write) last (written ++ more) messages
     IsLeft-unwritten complete last new result at more begins =
-        let first = IsFirst-converted relation after (start_at start) (behind written messages new) result
+        let first = IsSomeFirst-converted relation after (start_at start) (behind written messages new) result
         (AreConverted-all ended after same-after new result at) in
         inl (
           (written ++ new.out, first.0, first.1, IsBeginningOf-after written more new.out begins),
@@ -123,9 +123,9 @@ module _ {S E : Type 0} {relation : Relation S E} {end : ℕ} {start state : S} 
     })
     IsLeft-last last new (Ended reason) at is = inr (
       at_end,
-      inl (subst (λ out. IsStopped relation (records_of end read) (start_at start) reason out (messages ++ new.messages))
-          (appended-nothing written new.out at.2) (AreConverted-all (part ∷ []) (records_of end read)
-          (ap (λ last. finished ++ last) (sym is) ∙ same-all) new (Err (Ended reason))
+      inl (subst (λ out. IsEndedEarly relation (records_of end read) (start_at start) reason out
+          (messages ++ new.messages)) (appended-nothing written new.out at.2) (AreConverted-all (part ∷ [])
+          (records_of end read) (ap (λ last. finished ++ last) (sym is) ∙ same-all) new (Err (Ended reason))
           (AreConverted-failed relation part [] (start_at state) new (Ended reason) at))),
     )
     IsLeft-last last new Read at is = absurd at

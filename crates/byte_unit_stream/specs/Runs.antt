@@ -2,7 +2,7 @@
 use Rattle.std.specs.Prelude.{◌≡◌, ◌⊎◌, ⊤, IsTrue, Bool, false, ℕ, List, [], ◌++◌, Option, Result, Ok, Err}
 use Rattle.byte_unit_stream.specs.Beginnings.{IsBeginningOf}
 use Rattle.byte_unit_stream.specs.Records.{records_of, finished_records}
-use Rattle.byte_unit_stream.specs.Steps.{AreSteps, IsAll, IsFirst, IsStopped, Progress, Relation, start_at}
+use Rattle.byte_unit_stream.specs.RecordSteps.{AreSteps, IsAll, IsSomeFirst, IsEndedEarly, Progress, Relation, start_at}
 use Rattle.byte_unit_stream.specs.Streams.{HasRead, HasWritten, writing_failed}
 use Rattle.byte_unit_stream.specs.declared.reader.Reading.{Reading}
 use Rattle.byte_unit_stream.specs.declared.run.RunError.{RunError}
@@ -60,19 +60,19 @@ IsLeft {S} relation end start read complete (Ok _) state written messages =
 IsLeft relation end start read complete (Err Read) state written messages =
     IsAll relation (finished_records end read) (start_at start) written messages
 IsLeft relation end start read complete (Err Memory) state written messages =
-    IsFirst relation (finished_records end read) (start_at start) written messages
+    IsSomeFirst relation (finished_records end read) (start_at start) written messages
     ⊎ complete × ((others : List ℕ) × IsAll relation (finished_records end read) (start_at start) written others)
     × ((out : List ℕ) × IsAll relation (records_of end read) (start_at start) out messages)
 IsLeft {S} relation end start read complete (Err Write) state written messages =
-    ((out others : List ℕ) × IsFirst relation (finished_records end read) (start_at start) out others
+    ((out others : List ℕ) × IsSomeFirst relation (finished_records end read) (start_at start) out others
     × IsBeginningOf written out)
-    × ((out : List ℕ) × IsFirst relation (finished_records end read) (start_at start) out messages)
+    × ((out : List ℕ) × IsSomeFirst relation (finished_records end read) (start_at start) out messages)
     ⊎ complete × (now : Progress S) × (last : List ℕ)
     × AreSteps relation (records_of end read) (start_at start) now
     × ((last ≡ []) ⊎ relation.closes now.state last) × IsBeginningOf written (now.out ++ last)
     × (messages ≡ now.messages)
 IsLeft {S} relation end start read complete (Err (Ended reason)) state written messages =
-    IsStopped relation (finished_records end read) (start_at start) reason written messages
-    ⊎ complete × (IsStopped relation (records_of end read) (start_at start) reason written messages
+    IsEndedEarly relation (finished_records end read) (start_at start) reason written messages
+    ⊎ complete × (IsEndedEarly relation (records_of end read) (start_at start) reason written messages
     ⊎ (now : Progress S) × AreSteps relation (records_of end read) (start_at start) now
     × relation.fails now.state reason × (written ≡ now.out) × (messages ≡ now.messages))

@@ -4,8 +4,8 @@
 ghost use Rattle.std.specs.Prelude.{◌≡◌, ◌∷◌, ◌++◌, ◌<◌, ℕ, List, [], take, length, IsTrue, IsErrOf, IfErr, OnOk, Err};
 ghost use Rattle.byte_unit_stream.specs.Chunks.{ended_records, begun_record, nonempty_record};
 ghost use Rattle.byte_unit_stream.specs.Runs.{Course, IsEnd, IsLeft};
-ghost use Rattle.byte_unit_stream.specs.Steps.{AreConverted, AreSteps, IsClosed, IsRecordAt, IsStep, Progress};
-ghost use Rattle.byte_unit_stream.specs.Steps.{Relation, start_at};
+ghost use Rattle.byte_unit_stream.specs.RecordSteps.{AreConverted, AreSteps, IsClosed, IsRecordAt, IsStep, Progress};
+ghost use Rattle.byte_unit_stream.specs.RecordSteps.{Relation, start_at};
 ghost use Rattle.byte_unit_stream.specs.Streams.{HasReadAll, HasWritten, reading_failed, writing_failed};
 
 use crate::reader::Reading;
@@ -13,6 +13,9 @@ use crate::search::end_of;
 use crate::writer::{Writing, tell, write_whole};
 use std::alloc::{AllocError, Allocator};
 use std::io::{Read, Write};
+
+/// The length of the buffer that a program reads into: 64 KiB, as many bytes as a pipe of Linux holds by default.
+pub const CHUNK: usize = 65536;
 
 /// The reason why a run ended before the end of its input, or before the end of its output.
 #[derive(Debug, Clone, Copy, PartialEq, Eq)]
@@ -39,7 +42,7 @@ impl<E> From<AllocError> for RunError<E> {
 }
 
 /// The steps of a run: what it makes of each record, and what follows the last one.
-pub trait Steps {
+pub trait RecordSteps {
     /// The reasons for which a run ends early by itself.
     type End: Copy;
 
@@ -97,8 +100,9 @@ pub trait Steps {
 /// - `Read` if a read fails. The output of all records that ended before has been written.
 /// - `Memory` if allocation fails. The output of some number of first records has been written.
 /// - `Write` if a write fails. A beginning of the output has been written.
-/// - `Ended` as [`Steps::step`] and [`Steps::close`] return it. The output of the records before has been written.
-pub fn run_steps<S: Steps, A: Allocator, R: Read, W: Write, E: Write>(
+/// - `Ended` as [`RecordSteps::step`] and [`RecordSteps::close`] return it. The output of the records before has been
+///   written.
+pub fn run_steps<S: RecordSteps, A: Allocator, R: Read, W: Write, E: Write>(
     steps: &mut S,
     end: u8,
     part: &mut Vec<u8, A>,
@@ -154,8 +158,8 @@ pub fn run_steps<S: Steps, A: Allocator, R: Read, W: Write, E: Write>(
 /// Precondition (proved at every call): the steps are over records that end with `end`.
 ///
 /// # Errors
-/// Those of [`Steps::step`]. The output and the messages of the records before have been appended.
-fn feed<S: Steps, A: Allocator>(
+/// Those of [`RecordSteps::step`]. The output and the messages of the records before have been appended.
+fn feed<S: RecordSteps, A: Allocator>(
     steps: &mut S,
     end: u8,
     part: &mut Vec<u8, A>,
@@ -185,9 +189,9 @@ fn feed<S: Steps, A: Allocator>(
 /// Precondition (proved at every call): a record ends there.
 ///
 /// # Errors
-/// Those of [`Steps::step`].
+/// Those of [`RecordSteps::step`].
 #[inline(always)]
-fn convert_next<S: Steps, A: Allocator>(
+fn convert_next<S: RecordSteps, A: Allocator>(
     steps: &mut S,
     part: &mut Vec<u8, A>,
     bytes: &[u8],
@@ -215,8 +219,8 @@ fn convert_next<S: Steps, A: Allocator>(
 /// Converts the last record, if it is not empty.
 ///
 /// # Errors
-/// Those of [`Steps::step`].
-fn convert_last<S: Steps>(steps: &mut S, part: &[u8]) -> Result<(), RunError<S::End>>
+/// Those of [`RecordSteps::step`].
+fn convert_last<S: RecordSteps>(steps: &mut S, part: &[u8]) -> Result<(), RunError<S::End>>
     ensures ok { OnOk result
         (AreSteps S.relation (nonempty_record part.now) (S.at steps.old) (S.at steps.new)) }
     ensures error { IfErr result (λ error.
@@ -233,9 +237,12 @@ fn convert_last<S: Steps>(steps: &mut S, part: &[u8]) -> Result<(), RunError<S::
 ///
 /// # Errors
 /// - `Memory` if allocation fails. Nothing has been written.
-/// - `Ended` as [`Steps::close`] returns it. What waited has been written.
+/// - `Ended` as [`RecordSteps::close`] returns it. What waited has been written.
 /// - `Write` if a write fails. A beginning of the output has been written.
-fn close<S: Steps, W: Write>(steps: &mut S, writer: &mut Writing<W>) -> Result<(), RunError<S::End>>
+fn close<S: RecordSteps, W: Write>(
+    steps: &mut S,
+    writer: &mut Writing<W>,
+) -> Result<(), RunError<S::End>>
     ensures written { (written : List ℕ) × HasWritten W.contents writer.old writer.new written
         × IsEnd S.relation (S.at steps.old) (S.at steps.new).state result written }
     ensures failed { IsErrOf result RunError.Write → IsTrue (writing_failed writer.new) }

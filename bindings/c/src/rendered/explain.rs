@@ -4,7 +4,7 @@
 
 use crate::rendered::flags::{any_spec_at, parse_spec_at};
 use crate::rendered::message::write_message;
-use crate::rendered::parse::{read_unit, unit_flags};
+use crate::rendered::parse::{read_unit_bytes, unit_flags};
 use crate::rendered::texts::write;
 use crate::slices::Out;
 use byte_unit::rendered::base::{LocatedError, MAX_QUOTE_LEN, ParseError, ParseSpec, location_at, quote, size};
@@ -72,7 +72,7 @@ pub unsafe extern "C" fn byte_unit_explain_unit(
 /// Explains as `byte_unit_explain_unit` does, with known flags.
 fn explain_unit_as(text: &[u8], spec: ParseSpec, out: &mut [Out<u8>]) -> usize {
     let flags = unit_flags(spec);
-    match read_unit(text, flags) {
+    match read_unit_bytes(text, flags) {
         Some(Ok(_)) => 0,
         Some(Err(stop)) => {
             let error = LocatedError {

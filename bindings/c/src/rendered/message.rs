@@ -20,7 +20,7 @@ const END: &[u8] = b" (at the end of the text)";
 ///
 /// Precondition: `error.expected` is what the error names as expected.
 pub fn write_message(error: &LocatedError, out: &mut [Out<u8>]) -> usize {
-    match quoted(error) {
+    match message_parts(error) {
         Some((character, rest)) => write_quoted(character, rest, error.location, out),
         None => write_formatted(error, out),
     }
@@ -35,7 +35,7 @@ fn write_formatted(error: &LocatedError, out: &mut [Out<u8>]) -> usize {
 
 /// Returns the character that the message of an error quotes, and what follows it there. Returns `None` if it quotes no
 /// character, or not as it is.
-fn quoted(error: &LocatedError) -> Option<(u8, &'static [u8])> {
+fn message_parts(error: &LocatedError) -> Option<(u8, &'static [u8])> {
     match &error.error {
         ParseError::Value(ValueParseError::NotNumber(c)) if is_plain(*c) => Some((*c as u8, b"' is not a number")),
         ParseError::Unit(unit) if is_plain(unit.character) => {

@@ -122,7 +122,7 @@ pub unsafe extern "C" fn byte_unit_parse_unit_to(
 /// Parses as `byte_unit_parse_unit_to` does, with known flags.
 fn parse_unit_as(text: &[u8], spec: ParseSpec, unit: &mut Out<u32>, errors: &mut [Out<Error>]) -> u32 {
     let flags = unit_flags(spec);
-    match read_unit(text, flags) {
+    match read_unit_bytes(text, flags) {
         Some(Ok(found)) => {
             *unit = Out::new(unit_code(found));
             OK
@@ -137,7 +137,7 @@ fn parse_unit_as(text: &[u8], spec: ParseSpec, unit: &mut Out<u32>, errors: &mut
 
 /// Parses a unit from bytes, as `read_unit_text` does from a string. Returns `None` if the bytes are not UTF-8.
 #[inline(always)]
-pub(crate) fn read_unit(bytes: &[u8], flags: Flags) -> Option<Result<Unit, Stop<UnitStop>>> {
+pub(crate) fn read_unit_bytes(bytes: &[u8], flags: Flags) -> Option<Result<Unit, Stop<UnitStop>>> {
     match str::from_utf8(bytes) {
         Ok(text) => Some(read_unit_text(text, flags)),
         Err(_) => None,

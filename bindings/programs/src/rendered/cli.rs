@@ -155,8 +155,8 @@ fn print_or_report(rt: &HostRuntime, words: &[String], error: &crate::clap::Erro
 fn error_text(rt: &HostRuntime, words: &[String], error: &crate::clap::Error) -> Result<String, AllocError> {
     let marked = with_marks(rt.alloc(), words)?;
     match command(rt.alloc())?.try_get_matches_from(marked.as_slice()) {
-        Ok(_) => text_of(rt, error),
-        Err(error) => text_of(rt, &error),
+        Ok(_) => clap_text(rt, error),
+        Err(error) => clap_text(rt, &error),
     }
 }
 
@@ -165,7 +165,7 @@ fn error_text(rt: &HostRuntime, words: &[String], error: &crate::clap::Error) ->
 /// # Errors
 ///
 /// Returns `AllocError` if allocation fails, or if it failed in clap.
-fn text_of(rt: &HostRuntime, error: &crate::clap::Error) -> Result<String, AllocError> {
+fn clap_text(rt: &HostRuntime, error: &crate::clap::Error) -> Result<String, AllocError> {
     if error.kind() == ErrorKind::OutOfMemory {
         return Err(AllocError);
     }

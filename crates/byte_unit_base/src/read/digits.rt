@@ -19,9 +19,6 @@ const PAIR_OF_FOUR_BYTES: u64 = 0x0000_00ff_0000_00ff;
 /// The most digits whose value always fits a `u64`: 19.
 const SHORT_DIGITS: usize = 19;
 
-/// The most digits of a fraction: 28.
-const LONG_DIGITS: usize = 28;
-
 /// The first digits of a long fraction that are parsed once more: after them are at most 19.
 const FRONT_DIGITS: usize = 9;
 
@@ -195,7 +192,7 @@ fn longest_value(digits: &[u8]) -> Whole
 #[inline(always)]
 pub fn value_of(digits: &[u8], last_bits: u64) -> u128
     requires digits { AllDigits 10 digits.now }
-    requires few { length digits.now ≤ LONG_DIGITS }
+    requires few { length digits.now ≤ DECIMAL_PLACES }
     requires last_bits { last_bits ≡ digits_value 10 digits.now % 2 ^ 64 }
     ensures { result ≡ digits_value 10 digits.now }
 {
@@ -211,7 +208,7 @@ pub fn value_of(digits: &[u8], last_bits: u64) -> u128
 fn long_value(digits: &[u8], last_bits: u64) -> u128
     requires digits { AllDigits 10 digits.now }
     requires many { SHORT_DIGITS < length digits.now }
-    requires bound { length digits.now ≤ LONG_DIGITS }
+    requires bound { length digits.now ≤ DECIMAL_PLACES }
     requires last_bits { last_bits ≡ digits_value 10 digits.now % 2 ^ 64 }
     ensures { result ≡ digits_value 10 digits.now }
 {

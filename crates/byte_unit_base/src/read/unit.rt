@@ -32,7 +32,7 @@ pub(crate) fn read_unit(
     ensures { IsUnitEnd flags (drop from line.now) result }
 {
     if from == line.len() {
-        return Ok(unit_of(0, false, !flags.prefer_byte));
+        return Ok(unit_with_prefix(0, false, !flags.prefer_byte));
     }
     let text = eight_at(bytes, from);
     let power = usize::from(LETTER_POWERS[(text % 256) as usize]);
@@ -44,7 +44,7 @@ pub(crate) fn read_unit(
     let upper = (suffix % 256) as u8 == b'B';
     let end = start + length;
     if end == line.len() - from && length != 2 {
-        return Ok(unit_of(power, binary, counts_bits(length, upper, flags)));
+        return Ok(unit_with_prefix(power, binary, counts_bits(length, upper, flags)));
     }
     Err(ByteStop {
         index: end,
@@ -57,7 +57,7 @@ pub(crate) fn read_unit(
 
 /// Returns the unit with the prefix of this position, or without a prefix if it is 0.
 #[inline(always)]
-pub(crate) fn unit_of(power: usize, binary: bool, bit: bool) -> Unit
+pub(crate) fn unit_with_prefix(power: usize, binary: bool, bit: bool) -> Unit
     requires bound { power ≤ 9 }
     ensures { shape_of result ≡ multiple_shape (multiple_of power binary) bit }
 {

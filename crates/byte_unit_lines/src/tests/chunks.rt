@@ -3,9 +3,7 @@ use super::ended::{check, ran};
 use super::mixed::{INPUT, REPORT, finished, first_lines, repeated};
 use super::*;
 use byte_unit_stream::paced::{ALL_BUT_ONE, AT_ONCE, BYTE_BY_BYTE, Pace, Then};
-
-/// The number of bytes that a run asks for in each read.
-const CHUNK: usize = 65_536;
+use byte_unit_stream::run::CHUNK;
 
 /// The number of times that the mixed lines are repeated: the input has more than two chunks and less than three.
 const TIMES: usize = 2100;

@@ -36,7 +36,7 @@ pub(crate) fn columns_in(separator: Option<Separator>, width: u16, number: u64, 
 /// Returns the blank before a field that separates it from the field before it; nothing for the first field, and if
 /// fields are not between blanks.
 #[inline(always)]
-pub(crate) fn gap_of(separator: Option<Separator>, number: u64, field: &[u8]) -> &[u8] {
+pub(crate) fn separating_blank(separator: Option<Separator>, number: u64, field: &[u8]) -> &[u8] {
     match (separator, field) {
         (Some(Separator::Blanks), [_, ..]) if number > 1 => &field[..1],
         _ => &[],

@@ -4,7 +4,7 @@
 
 use crate::rattle::Vec;
 use crate::rattle::alloc::Allocator;
-use crate::rendered::command::blanks::{between, columns_in, end_of_first, gap_of};
+use crate::rendered::command::blanks::{between, columns_in, end_of_first, separating_blank};
 use crate::rendered::command::error::{EndReason, RunError, RunResult};
 use crate::rendered::command::field_list::FieldList;
 use crate::rendered::command::notice::{Context, Notices, add_limit_notice, add_reject_notice};
@@ -125,7 +125,7 @@ impl<'a, A: Allocator> Converter<'a, A> {
             return self.add_rejected(number, field);
         };
         self.count(number, field, size)?;
-        self.waiting.extend_from_slice(gap_of(separator, number, field))?;
+        self.waiting.extend_from_slice(separating_blank(separator, number, field))?;
         let width = columns_in(separator, options.width, number, field);
         add_in_width(options, width, size, &mut self.digits, &mut self.waiting)?;
         Ok(())

@@ -11,14 +11,12 @@ use crate::rendered::command::error::{EndReason, RunError, RunResult};
 use crate::rendered::command::notice::{Context, Notices};
 use crate::rendered::command::options::{Form, Invalid, Options};
 use crate::rendered::command::streams::Streams;
-use crate::rendered::command::tally::{TOTAL_LIMIT, Tally};
+use crate::rendered::command::tally::Tally;
 use crate::rendered::command::text::{DIGITS, add_in_width};
-use crate::rendered::stream::run::{Steps, run_steps};
+use crate::rendered::stream::run::{CHUNK, RecordSteps, run_steps};
+use byte_unit::rendered::base::size::SIZE_LIMIT;
 use byte_unit::rendered::format::NARROW_TEXT;
 use byte_unit::rendered::math::EXPANSION_PLACES;
-
-/// The number of bytes that [`run`] asks for in each read: 64 KiB, as many as a pipe of Linux holds by default.
-const CHUNK: usize = 65536;
 
 /// Reads the whole input, and writes each record, with the chosen fields replaced.
 ///
@@ -107,7 +105,7 @@ impl<'a, A: Allocator + Copy> RunBuffers<'a, A> {
     }
 }
 
-impl<'a, A: Allocator> Steps for Converter<'a, A> {
+impl<'a, A: Allocator> RecordSteps for Converter<'a, A> {
     type End = EndReason;
 
     #[inline(always)]
@@ -133,7 +131,7 @@ impl<'a, A: Allocator> Steps for Converter<'a, A> {
             return Ok(());
         }
         let total = self.tally.total;
-        if total >= TOTAL_LIMIT {
+        if total >= SIZE_LIMIT {
             return Err(RunError::Ended(EndReason::Total));
         }
         let (width, waiting) = (options.width as usize, &mut self.waiting);
@@ -156,10 +154,9 @@ impl<'a, A: Allocator> Steps for Converter<'a, A> {
     }
 }
 
-/// The most bytes that the texts of the sizes of one read may take, if each byte of it begins a field: 40 bytes for
-/// each of 65,536. So [`run`] reads a whole chunk at once if no text is longer and no messages are
-/// counted.
-const TEXTS_MAX: usize = 2_621_440;
+/// The most bytes that the texts of the sizes of one read may take, if each byte of it begins a field: 40 for each byte
+/// of a chunk. So [`run`] reads a whole chunk at once if no text is longer and no messages are counted.
+const TEXTS_MAX: usize = 40 * CHUNK;
 
 /// The bytes that are counted for the messages about a field, in a run that can have more than one message. An
 /// estimate: it makes reads shorter, and bounds no message.

@@ -3,9 +3,7 @@
 //! What a run counts.
 
 use crate::rendered::command::options::Options;
-
-/// The limit of totals, 10^30, which is that of sizes. A total that reaches it stays there.
-pub(crate) const TOTAL_LIMIT: u128 = 1_000_000_000_000_000_000_000_000_000_000;
+use byte_unit::rendered::base::size::SIZE_LIMIT;
 
 /// What was counted in the fields that were converted.
 #[derive(Debug, Clone, Copy, PartialEq, Eq)]
@@ -24,7 +22,7 @@ impl Tally {
 
     /// Counts a size. Returns `true` if it is above the maximum or below the minimum.
     pub(crate) fn add(&mut self, options: &Options, size: u128) -> bool {
-        self.total = self.total.saturating_add(size).min(TOTAL_LIMIT);
+        self.total = self.total.saturating_add(size).min(SIZE_LIMIT);
         let beyond = options.max.is_some_and(|most| most < size) || options.min.is_some_and(|least| size < least);
         if beyond {
             self.beyond = true;

@@ -6,16 +6,13 @@ use crate::rattle::Vec;
 use crate::rattle::alloc::{Allocator, Global};
 use crate::rattle::io::{self, Read, Write};
 use crate::rendered::lines::line::add_answer;
-use crate::rendered::stream::run::{self, Steps, run_steps};
+use crate::rendered::stream::run::{self, CHUNK, RecordSteps, run_steps};
 use crate::rendered::stream::{Reading, Writing};
 use byte_unit::rendered::base::Kind;
 use std::convert::Infallible;
 
 /// The byte that ends a line.
 const LINE_END: u8 = b'\n';
-
-/// The number of bytes that [`run`] asks for in each read: 64 KiB, as many as a pipe of Linux holds by default.
-const CHUNK: usize = 65536;
 
 /// The reason why a run ended before the end of its input. No line is one.
 pub type RunError = run::RunError<Infallible>;
@@ -28,7 +25,7 @@ pub(crate) struct Answers<A: Allocator> {
     pub(crate) waiting: Vec<u8, A>,
 }
 
-impl<A: Allocator> Steps for Answers<A> {
+impl<A: Allocator> RecordSteps for Answers<A> {
     type End = Infallible;
 
     // Inlined for the row `1.5 KiB` of lines in docs/SPEED.md.

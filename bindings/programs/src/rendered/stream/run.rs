@@ -10,6 +10,9 @@ use crate::rendered::stream::reader::Reading;
 use crate::rendered::stream::search::end_of;
 use crate::rendered::stream::writer::{Writing, tell, write_whole};
 
+/// The length of the buffer that a program reads into: 64 KiB, as many bytes as a pipe of Linux holds by default.
+pub const CHUNK: usize = 65536;
+
 /// The reason why a run ended before the end of its input, or before the end of its output.
 #[derive(Debug, Clone, Copy, PartialEq, Eq)]
 pub enum RunError<E> {
@@ -31,7 +34,7 @@ impl<E> From<AllocError> for RunError<E> {
 }
 
 /// The steps of a run: what it makes of each record, and what follows the last one.
-pub trait Steps {
+pub trait RecordSteps {
     /// The reasons for which a run ends early by itself.
     type End: Copy;
 
@@ -73,8 +76,9 @@ pub trait Steps {
 /// - `Read` if a read fails. The output of all records that ended before has been written.
 /// - `Memory` if allocation fails. The output of some number of first records has been written.
 /// - `Write` if a write fails. A beginning of the output has been written.
-/// - `Ended` as [`Steps::step`] and [`Steps::close`] return it. The output of the records before has been written.
-pub fn run_steps<S: Steps, A: Allocator, R: Read, W: Write, E: Write>(
+/// - `Ended` as [`RecordSteps::step`] and [`RecordSteps::close`] return it. The output of the records before has been
+///   written.
+pub fn run_steps<S: RecordSteps, A: Allocator, R: Read, W: Write, E: Write>(
     steps: &mut S,
     end: u8,
     part: &mut Vec<u8, A>,
@@ -121,8 +125,8 @@ pub fn run_steps<S: Steps, A: Allocator, R: Read, W: Write, E: Write>(
 /// Precondition: the steps are over records that end with `end`.
 ///
 /// # Errors
-/// Those of [`Steps::step`]. The output and the messages of the records before have been appended.
-fn feed<S: Steps, A: Allocator>(
+/// Those of [`RecordSteps::step`]. The output and the messages of the records before have been appended.
+fn feed<S: RecordSteps, A: Allocator>(
     steps: &mut S,
     end: u8,
     part: &mut Vec<u8, A>,
@@ -146,9 +150,9 @@ fn feed<S: Steps, A: Allocator>(
 /// Precondition: a record ends there.
 ///
 /// # Errors
-/// Those of [`Steps::step`].
+/// Those of [`RecordSteps::step`].
 #[inline(always)]
-fn convert_next<S: Steps, A: Allocator>(
+fn convert_next<S: RecordSteps, A: Allocator>(
     steps: &mut S,
     part: &mut Vec<u8, A>,
     bytes: &[u8],
@@ -170,8 +174,8 @@ fn convert_next<S: Steps, A: Allocator>(
 /// Converts the last record, if it is not empty.
 ///
 /// # Errors
-/// Those of [`Steps::step`].
-fn convert_last<S: Steps>(steps: &mut S, part: &[u8]) -> Result<(), RunError<S::End>> {
+/// Those of [`RecordSteps::step`].
+fn convert_last<S: RecordSteps>(steps: &mut S, part: &[u8]) -> Result<(), RunError<S::End>> {
     if part.is_empty() {
         return Ok(());
     }
@@ -182,9 +186,9 @@ fn convert_last<S: Steps>(steps: &mut S, part: &[u8]) -> Result<(), RunError<S::
 ///
 /// # Errors
 /// - `Memory` if allocation fails. Nothing has been written.
-/// - `Ended` as [`Steps::close`] returns it. What waited has been written.
+/// - `Ended` as [`RecordSteps::close`] returns it. What waited has been written.
 /// - `Write` if a write fails. A beginning of the output has been written.
-fn close<S: Steps, W: Write>(steps: &mut S, writer: &mut Writing<W>) -> Result<(), RunError<S::End>> {
+fn close<S: RecordSteps, W: Write>(steps: &mut S, writer: &mut Writing<W>) -> Result<(), RunError<S::End>> {
     match steps.close() {
         Ok(()) => match write_whole(writer, steps.waiting(), ()) {
             Ok(()) => Ok(()),

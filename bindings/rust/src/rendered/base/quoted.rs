@@ -42,7 +42,7 @@ impl<'a> fmt::Display for Quoted<'a> {
 pub fn quote<'a>(text: &[u8], buffer: &'a mut [u8; MAX_QUOTE_LEN]) -> &'a str {
     let len = quoted_len(text);
     let end = put_escaped(&text[..len], buffer, 0);
-    let end = put(dots(len < text.len()), buffer, end);
+    let end = put_after(dots(len < text.len()), buffer, end);
     str::from_utf8(&buffer[..end]).unwrap()
 }
 
@@ -103,22 +103,22 @@ fn put_char(c: char, buffer: &mut [u8], begin: usize) -> usize {
     if c.is_control() || is_unseen(c) {
         return put_code(c as u32, buffer, begin);
     }
-    put(c.encode_utf8(&mut [0; 4]).as_bytes(), buffer, begin)
+    put_after(c.encode_utf8(&mut [0; 4]).as_bytes(), buffer, begin)
 }
 
 /// Writes the code of a character in hexadecimal, between `\u{` and `}`.
 fn put_code(code: u32, buffer: &mut [u8], begin: usize) -> usize {
-    let digits = put(b"\\u{", buffer, begin);
+    let digits = put_after(b"\\u{", buffer, begin);
     let end = put_hexadecimal(code, buffer, digits);
-    put(b"}", buffer, end)
+    put_after(b"}", buffer, end)
 }
 
 /// Writes a byte: a printable ASCII character as it is, and any other byte as `\x` and two hexadecimal digits.
 fn put_byte(byte: u8, buffer: &mut [u8], begin: usize) -> usize {
     if matches!(byte, b' '..=b'~') {
-        return put(&[byte], buffer, begin);
+        return put_after(&[byte], buffer, begin);
     }
-    let high = put(b"\\x", buffer, begin);
+    let high = put_after(b"\\x", buffer, begin);
     let low = put_hexadecimal(u32::from(byte / 16), buffer, high);
     put_hexadecimal(u32::from(byte % 16), buffer, low)
 }
@@ -126,10 +126,10 @@ fn put_byte(byte: u8, buffer: &mut [u8], begin: usize) -> usize {
 /// Writes the hexadecimal digits of a number, in lower case.
 fn put_hexadecimal(n: u32, buffer: &mut [u8], begin: usize) -> usize {
     if n < 16 {
-        return put(&[hexadecimal_digit(n)], buffer, begin);
+        return put_after(&[hexadecimal_digit(n)], buffer, begin);
     }
     let last = put_hexadecimal(n / 16, buffer, begin);
-    put(&[hexadecimal_digit(n % 16)], buffer, last)
+    put_after(&[hexadecimal_digit(n % 16)], buffer, last)
 }
 
 /// Returns a hexadecimal digit, in lower case.
@@ -138,7 +138,7 @@ fn hexadecimal_digit(digit: u32) -> u8 {
 }
 
 /// Writes bytes to a buffer from the index `begin`, and returns the index where they end.
-fn put(bytes: &[u8], buffer: &mut [u8], begin: usize) -> usize {
+fn put_after(bytes: &[u8], buffer: &mut [u8], begin: usize) -> usize {
     let end = begin + bytes.len();
     buffer[begin..end].copy_from_slice(bytes);
     end

@@ -2,7 +2,7 @@
 
 //! The units of bits and bytes: their names, their bits and their prefixes.
 
-use crate::rendered::base::read::unit::unit_of;
+use crate::rendered::base::read::unit::unit_with_prefix;
 use crate::rendered::base::unit::tables::{UNIT_BITS, UNITS};
 
 pub(crate) mod parse;
@@ -195,7 +195,7 @@ impl Unit {
     /// ```
     pub fn to_binary(self) -> Unit {
         let Shape { power, bit, .. } = self.shape();
-        unit_of(power as usize, true, bit)
+        unit_with_prefix(power as usize, true, bit)
     }
 
     /// Returns the shape of the unit, which determines its name and its bits.

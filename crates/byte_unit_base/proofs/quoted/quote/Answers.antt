@@ -18,8 +18,8 @@ put_escaped-end-requires c = omega (
       c.quoted_len-len.ensures.bound (λ k. omega (arith, c.type_inv.text k)),
 )
 
-pub put-end-requires : goal.put-end-requires
-put-end-requires c = omega (
+pub put_after-end-requires : goal.put_after-end-requires
+put_after-end-requires c = omega (
   arith,
   c.told-buffer,
   escape_take_length c.quoted_len-len.result c.args.text.now
@@ -30,8 +30,8 @@ pub unwrap-requires : goal.unwrap-requires
 unwrap-requires c =
     let text = c.args.text.now in
     let len = c.quoted_len-len.result in
-    let written : take c.put-end.result c.put-end.new.buffer ≡ quote text =
-    c.put-end.ensures.bytes ∙ ap (λ front. front ++ c.dots.result.now) c.put_escaped-end.ensures.bytes
+    let written : take c.put_after-end.result c.put_after-end.new.buffer ≡ quote text =
+    c.put_after-end.ensures.bytes ∙ ap (λ front. front ++ c.dots.result.now) c.put_escaped-end.ensures.bytes
     ∙ ap (λ dots. escape (take len text) ++ dots) c.dots.ensures.text
     ∙ ap (λ len. escape (take len text) ++ (if nat_lt len (length text) then codes ".." else []))
     c.quoted_len-len.ensures.len in

@@ -4,14 +4,14 @@ use Rattle.std.specs.Prelude.{unwrap_or}
 use Rattle.byte_unit.specs.declared.Unit.{Unit as UnitName}
 use Rattle.byte_unit_command.specs.CallOptions.{IsWithinExact, form_without}
 use Rattle.byte_unit_command.specs.Meaning.{IsForm}
-use Rattle.byte_unit_command.specs.Values.{text_of}
+use Rattle.byte_unit_command.specs.Values.{given_text}
 use Rattle.byte_unit_command.specs.declared.options.Form.TheVariants.{InUnit}
 use Rattle.byte_unit_command.proofs.meaning.form_of.Goals.{then-values, else-values}
 use Rattle.byte_unit_command.proofs.meaning.form_of.Goals as goal
 
 -- a value other than the default was given by the option `--to`
 is_given : (to : Option (Bor (List ℕ))) (default value : Bor (List ℕ)) → value ≡ unwrap_or to default
-    → value.now ≢ default.now → text_of to ≡ Some value.now
+    → value.now ≢ default.now → given_text to ≡ Some value.now
 is_given None default value is other = absurd (other (ap (λ text. text.now) is))
 is_given (Some to) default value is other = ap (λ text. Some text.now) (sym is)
 

@@ -1,7 +1,7 @@
 -- The message is told unless rejected fields are ignored.
 use Rattle.std.proofs.Common.{◌∙◌, Bool, MatchBool, [], ◌≡◌, sym, subst}
 use Rattle.byte_unit_command.specs.CallEnds.{context_of}
-use Rattle.byte_unit_command.specs.Messages.{IsFieldError, IsMessage}
+use Rattle.byte_unit_command.specs.Messages.{IsFieldError, IsFieldMessage}
 use Rattle.byte_unit_command.specs.declared.notice.FieldError.{FieldError}
 use Rattle.std.proofs.lemmas.Result.{on_ok_weaker}
 use Rattle.byte_unit_command.proofs.notice.add_reject_notice.Goals as goal
@@ -15,7 +15,7 @@ returns-clause-ok g c =
     on_ok_weaker c.add_message.result (λ added. (
       added.0,
       subst (λ (told : Bool). MatchBool told ((reason : FieldError) × IsFieldError context.options field reason
-          × IsMessage context c.args.number field reason added.0) (added.0 ≡ []))
+          × IsFieldMessage context c.args.number field reason added.0) (added.0 ≡ []))
           (sym c.if-not-tells_rejected.false ∙ c.tells_rejected.ensures)
           (c.reason_of-reason.result, c.reason_of-reason.ensures, added.1),
       added.2,

@@ -7,7 +7,7 @@ use Rattle.byte_unit_command.specs.declared.options.Options.{Options}
 use Rattle.byte_unit_command.specs.declared.streams.Streams.{Streams}
 use Rattle.byte_unit_command.specs.declared.tally.Tally.{Tally}
 use Rattle.byte_unit_stream.specs.Records.{finished_records}
-use Rattle.byte_unit_stream.specs.Steps.{start_at}
+use Rattle.byte_unit_stream.specs.RecordSteps.{start_at}
 use Rattle.byte_unit_stream.specs.declared.run.RunError.{RunError}
 use Rattle.byte_unit_stream.specs.declared.run.RunError.TheVariants.{Memory}
 use Rattle.byte_unit_stream.proofs.Courses.{Course-start}

@@ -2,19 +2,19 @@
 use Rattle.std.proofs.Common.{Err, take, arith, ap, subst, sym, ◌∙◌}
 use Rattle.byte_unit_stream.specs.Beginnings.{IsBeginningOf}
 use Rattle.byte_unit_stream.specs.Chunks.{ended_records}
-use Rattle.byte_unit_stream.specs.Steps.{AreConverted, IsStep, start_at}
+use Rattle.byte_unit_stream.specs.RecordSteps.{AreConverted, IsStep, start_at}
 use Rattle.byte_unit_stream.specs.Streams.{HasReadAll}
 use Rattle.byte_unit_stream.proofs.Courses.{Course-end, Course-failed, Course-read, Course-start, Course-told, Course-wrote}
 use Rattle.byte_unit_stream.proofs.Runs.{IsAll-now, IsLeft-end, IsLeft-last, IsLeft-piece, IsLeft-unwritten}
 use Rattle.byte_unit_stream.proofs.Runs.{IsServed, IsServed-piece}
-use Rattle.byte_unit_stream.proofs.Steps.{start_at-state}
+use Rattle.byte_unit_stream.proofs.RecordSteps.{start_at-state}
 use Rattle.byte_unit_stream.proofs.run.run_steps.Goals as goal
 
 -- the invariant holds at the start: nothing is read, and the buffers were cleared
 pub reads-init : goal.reads-init
 reads-init g c =
-    let start = (g.S.Steps.at c.args.steps.now).state in
-    let now = g.S.Steps.at c.clear-2.new.self in (
+    let start = (g.S.RecordSteps.at c.args.steps.now).state in
+    let now = g.S.RecordSteps.at c.clear-2.new.self in (
       record {
         course = Course-start _ _ _;
         served = record {
@@ -39,7 +39,7 @@ pub returns-in-Err-clause-run : goal.returns-in-Err-clause-run
 returns-in-Err-clause-run g c =
     let so_far = c.reads.invariant.0 in
     let piece = take c.in-Some.n c.read.new.buf in
-    let new = g.S.Steps.at c.feed-fed.new.steps in
+    let new = g.S.RecordSteps.at c.feed-fed.new.steps in
     let fed = rw so_far.none_waits at c.feed-fed.ensures.converted in
     -- a triple: the bytes that were written, that they were appended, and that they are a beginning of what waited
     let written = c.in-Err.ensures.err in (
@@ -54,7 +54,7 @@ pub reads-preserved : goal.reads-preserved
 reads-preserved g c =
     let so_far = c.reads.invariant.0 in
     let piece = take c.in-Some.n c.read.new.buf in
-    let new = g.S.Steps.at c.feed-fed.new.steps in
+    let new = g.S.RecordSteps.at c.feed-fed.new.steps in
     let steps = rw so_far.none_waits at c.in-Ok-fed.ensures.converted in
     let wrote = rw c.waiting.ensures at c.in-Ok.ensures.ok in
     let told = rw c.untold.ensures at c.tell.ensures in
@@ -64,9 +64,10 @@ reads-preserved g c =
     let cleared = c.clear-in-Some.ensures in (
       record {
         course = course;
-        served = subst (IsServed g.S.Steps.relation c.args.end (g.S.Steps.at c.args.steps.now).state course.read
-            course.written course.messages c.feed-fed.new.part.items) (sym (ap (λ now. now.state) cleared.at)) served;
-        none_waits = start_at-state (g.S.Steps.at c.clear-in-Some.new.self) new.state cleared.at;
+        served = subst (IsServed g.S.RecordSteps.relation c.args.end (g.S.RecordSteps.at c.args.steps.now).state
+            course.read course.written course.messages c.feed-fed.new.part.items) (sym (ap (λ now. now.state) cleared.at))
+            served;
+        none_waits = start_at-state (g.S.RecordSteps.at c.clear-in-Some.new.self) new.state cleared.at;
       },
       cleared.same_end ∙ c.in-Ok-fed.ensures.same_end,
     )
@@ -76,16 +77,16 @@ pub returns-in-Err-fed-clause-run : goal.returns-in-Err-fed-clause-run
 returns-in-Err-fed-clause-run g c =
     let so_far = c.reads.invariant.0 in
     let piece = take c.in-Some.n c.read.new.buf in
-    let new = g.S.Steps.at c.feed-fed.new.steps in
+    let new = g.S.RecordSteps.at c.feed-fed.new.steps in
     let error = c.in-Err-fed.error in
-    let fed = subst (λ old. AreConverted g.S.Steps.relation (ended_records c.args.end c.reads.part.items piece) old new
-    (Err error)) so_far.none_waits c.in-Err-fed.ensures.converted in
+    let fed = subst (λ old. AreConverted g.S.RecordSteps.relation (ended_records c.args.end c.reads.part.items piece)
+    old new (Err error)) so_far.none_waits c.in-Err-fed.ensures.converted in
     let wrote = rw c.waiting.ensures at c.in-Ok.ensures.ok in
     let told = rw c.untold.ensures at c.tell.ensures in (
       Course-told (Course-wrote (Course-read so_far.course c.read.new.self piece c.in-Some.ensures.came)
           c.write_whole.new.writer new.out wrote) c.tell.new.errors new.messages told,
       IsLeft-piece so_far.served piece (HasReadAll g.R.Read.remaining c.read.new.self)
-          (g.S.Steps.at c.clear-in-Some.new.self).state new error fed,
+          (g.S.RecordSteps.at c.clear-in-Some.new.self).state new error fed,
     )
 
 -- the input was read to its end, and the last record converted: what is written after it is right for the result
@@ -93,7 +94,7 @@ pub returns-in-Ok-last-clause-run : goal.returns-in-Ok-last-clause-run
 returns-in-Ok-last-clause-run g c =
     let so_far = c.reads.invariant.0 in
     let end = c.in-Some-eq0 in
-    let new = g.S.Steps.at c.convert_last-last.new.steps in
+    let new = g.S.RecordSteps.at c.convert_last-last.new.steps in
     let at_end = end.ensures.end end.field-0-test (omega (arith, c.reads.auto.buffer, c.requires.nonempty)) in
     let steps = rw (c.deref.ensures.value, so_far.none_waits) at c.in-Ok-last.ensures.ok in
     let told = rw c.untold-2.ensures at c.tell-2.ensures in
@@ -102,8 +103,8 @@ returns-in-Ok-last-clause-run g c =
       Course-wrote (Course-told (Course-end so_far.course c.read.new.self
           (take end.field-0 c.read.new.buf) end.ensures.came (ap (λ count. take count c.read.new.buf) end.field-0-test))
           c.tell-2.new.errors new.messages told) c.close.new.writer written.0 written.1,
-      IsLeft-end so_far.served (HasReadAll g.R.Read.remaining c.read.new.self) at_end (g.S.Steps.at c.close.new.steps).state
-          new steps c.close.result written.0 written.2,
+      IsLeft-end so_far.served (HasReadAll g.R.Read.remaining c.read.new.self) at_end
+          (g.S.RecordSteps.at c.close.new.steps).state new steps c.close.result written.0 written.2,
     )
 
 -- the last record could not be converted: the messages about it are told
@@ -112,14 +113,14 @@ returns-in-Err-last-clause-run g c =
     let so_far = c.reads.invariant.0 in
     let end = c.in-Some-eq0 in
     let part = c.deref.result.now in
-    let new = g.S.Steps.at c.convert_last-last.new.steps in
+    let new = g.S.RecordSteps.at c.convert_last-last.new.steps in
     let error = c.in-Err-last.error in
     let at_end = end.ensures.end end.field-0-test (omega (arith, c.reads.auto.buffer, c.requires.nonempty)) in
-    let served : IsServed g.S.Steps.relation c.args.end (g.S.Steps.at c.args.steps.now).state so_far.course.read
-    so_far.course.written so_far.course.messages part (g.S.Steps.at c.reads.steps).state =
+    let served : IsServed g.S.RecordSteps.relation c.args.end (g.S.RecordSteps.at c.args.steps.now).state
+    so_far.course.read so_far.course.written so_far.course.messages part (g.S.RecordSteps.at c.reads.steps).state =
     record { steps = so_far.served.steps; begun = c.deref.ensures.value ∙ so_far.served.begun } in
     let failed = c.in-Err-last.ensures.error in
-    let step = subst (λ old. IsStep g.S.Steps.relation part old new (Err error)) so_far.none_waits failed.0 in
+    let step = subst (λ old. IsStep g.S.RecordSteps.relation part old new (Err error)) so_far.none_waits failed.0 in
     let told = rw c.untold-2.ensures at c.tell-2.ensures in (
       Course-told (Course-end so_far.course c.read.new.self
           (take end.field-0 c.read.new.buf) end.ensures.came (ap (λ count. take count c.read.new.buf) end.field-0-test))

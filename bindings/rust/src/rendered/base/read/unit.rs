@@ -18,7 +18,7 @@ use crate::rendered::base::unit::tables::{BY_POWER, LETTER_POWERS};
 #[inline(always)]
 pub(crate) fn read_unit(line: &[u8], bytes: &[u8], from: usize, flags: Flags) -> Result<Unit, ByteStop<UnitStop>> {
     if from == line.len() {
-        return Ok(unit_of(0, false, !flags.prefer_byte));
+        return Ok(unit_with_prefix(0, false, !flags.prefer_byte));
     }
     let text = eight_at(bytes, from);
     let power = usize::from(LETTER_POWERS[(text % 256) as usize]);
@@ -30,14 +30,14 @@ pub(crate) fn read_unit(line: &[u8], bytes: &[u8], from: usize, flags: Flags) ->
     let upper = (suffix % 256) as u8 == b'B';
     let end = start + length;
     if end == line.len() - from && length != 2 {
-        return Ok(unit_of(power, binary, counts_bits(length, upper, flags)));
+        return Ok(unit_with_prefix(power, binary, counts_bits(length, upper, flags)));
     }
     Err(ByteStop { index: end, reason: UnitStop { has_prefix: power != 0, word: letters(length) } })
 }
 
 /// Returns the unit with the prefix of this position, or without a prefix if it is 0.
 #[inline(always)]
-pub(crate) fn unit_of(power: usize, binary: bool, bit: bool) -> Unit {
+pub(crate) fn unit_with_prefix(power: usize, binary: bool, bit: bool) -> Unit {
     BY_POWER[power][2 * usize::from(binary) + usize::from(bit)]
 }
 

@@ -6,8 +6,8 @@ use Rattle.byte_unit_base.proofs.UnitStops.{spelled}
 use Rattle.byte_unit_base.proofs.read.unit.read_unit.Goals as goal
 
 -- the position of a prefix is at most 9
-pub unit_of-requires-then-length-ne2 : goal.unit_of-requires-then-length-ne2
-unit_of-requires-then-length-ne2 c =
+pub unit_with_prefix-requires-then-length-ne2 : goal.unit_with_prefix-requires-then-length-ne2
+unit_with_prefix-requires-then-length-ne2 c =
     let power = c.from-power.ensures ∙ power_in_table (c.eight_at-text.result % 256) (omega arith) in
     omega (arith, power, power_few (c.eight_at-text.result % 256))
 
@@ -18,7 +18,7 @@ returns-then-length-ne2 c =
     (c.from-power.ensures ∙ power_in_table (c.eight_at-text.result % 256) (omega arith))
     c.from.ensures c.from-2.ensures c.suffix_len-length.ensures.letters in
     spelled c.args.flags _ _ _ _ leads (c.if-end-line.true ∙ sym (length-drop c.args.from c.args.line.now))
-    (rw (c.counts_bits.ensures, c.unit_of-then-length-ne2.ensures) refl)
+    (rw (c.counts_bits.ensures, c.unit_with_prefix-then-length-ne2.ensures) refl)
 
 -- the beginning of a unit ends before the line does, or its suffix is `bi`; 105 is `i`, 73 is `I` and 66 is `B`
 pub returns : goal.returns

@@ -2,7 +2,7 @@
 use Rattle.std.proofs.Common.{◌++◌, ◌∷◌, [], Some, ap, sym, subst, refl, ◌∙◌}
 use Rattle.byte_unit_command.specs.CallEnds.{state_of}
 use Rattle.byte_unit_command.specs.Field.{IsPlaced}
-use Rattle.byte_unit_command.specs.Fields.{gap_by, columns_by}
+use Rattle.byte_unit_command.specs.Fields.{separating_blank_by, columns_by}
 use Rattle.byte_unit_command.specs.Formatted.{IsFormatted}
 use Rattle.byte_unit_command.specs.Output.{size}
 use Rattle.byte_unit_command.proofs.Converting.{AddsFields-one, AddsFields-other, Appends-more}
@@ -21,9 +21,10 @@ returns g c =
     let number = c.args.number in
     let field = c.args.field.now in
     let told = c.in_ok-count.ensures in
-    let gap = c.gap_of.result.now in
+    let gap = c.separating_blank.result.now in
     let formatted = c.in_ok-add_in_width.ensures.ok in
-    let gap_is = c.gap_of.ensures ∙ ap (λ separator. gap_by separator number field) (sym c.requires.separator) in
+    let gap_is = c.separating_blank.ensures
+    ∙ ap (λ separator. separating_blank_by separator number field) (sym c.requires.separator) in
     let width_is = c.columns_in-width.ensures
     ∙ ap (λ separator. columns_by separator options.width number field) (sym c.requires.separator) in
     let placed : IsPlaced options number field c.in-Some.size (gap ++ formatted.0) = record {

@@ -1,7 +1,7 @@
 -- A field that is not a size adds a copy of itself, and a message about it.
 use Rattle.std.proofs.Common.{◌≡◌, ◌+◌, ◌∷◌, [], None, refl, rules, inr, subst, arith}
 use Rattle.byte_unit_command.specs.CallEnds.{state_of}
-use Rattle.byte_unit_command.specs.Output.{IsField, Output, rejected}
+use Rattle.byte_unit_command.specs.Output.{IsFieldOutput, Output, rejected}
 use Rattle.byte_unit_command.specs.declared.options.Invalid.TheVariants.{Abort}
 use Rattle.byte_unit_command.proofs.Converting.{AddsFields-one, memory-passed}
 use Rattle.byte_unit_stream.proofs.Beginnings.{IsBeginningOf-same, IsBeginningOf-self}
@@ -38,7 +38,7 @@ returns-then-eq g c =
             fields_are = refl;
             are_fields = tt;
             none_before = refl;
-            is_field = subst (λ number. IsField old.state.context number field own) first
+            is_field = subst (λ number. IsFieldOutput old.state.context number field own) first
                 (rejected told.0 c.requires.chosen c.requires.none told.1 refl);
             is_rejected = refl;
             messages_are = refl;

@@ -4,7 +4,7 @@ use Rattle.byte_unit_command.specs.CallEnds.{AddsFields, Appends, state_of}
 use Rattle.byte_unit_command.specs.Fields.{fields_of}
 use Rattle.byte_unit_command.specs.Output.{copied}
 use Rattle.byte_unit_command.specs.State.{RunState}
-use Rattle.byte_unit_stream.specs.Steps.{Progress}
+use Rattle.byte_unit_stream.specs.RecordSteps.{Progress}
 use Rattle.byte_unit_command.proofs.Converting.{Adds-header, Adds-fields, Appends-more, Appends-none, at_next, started}
 use Rattle.byte_unit_command.proofs.converter.Converter.append_record.Goals.{then-self-gt0+in_ok-extend_from_slice}
 use Rattle.byte_unit_command.proofs.converter.Converter.append_record.Goals.{else-self-gt0+in_ok-add_fields}

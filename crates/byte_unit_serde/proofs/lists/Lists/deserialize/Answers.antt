@@ -1,9 +1,9 @@
 -- Each iteration reads one more item; the sequence ends after the last, or with an error.
 use Rattle.std.proofs.Common.{rules, ◌≡◌, [], ◌∷◌, ◌++◌, subst, sym, Err, inl, inr}
 use Rattle.serde.specs.Steps.{Stays}
-use Rattle.byte_unit_serde.specs.Returns.{Reading}
+use Rattle.byte_unit_serde.specs.Returns.{ReadingValue}
 use Rattle.byte_unit_serde.specs.Serialized.{ReadsEach}
-use Rattle.byte_unit_serde.proofs.Reading.{reads_each_snoc, holds_of_error}
+use Rattle.byte_unit_serde.proofs.ReadSequences.{reads_each_snoc, holds_of_error}
 use Rattle.byte_unit_serde.proofs.lists.Lists.deserialize.Goals as goal
 
 -- The format failed at the next item: the second case of `IsListError`, in its first part.
@@ -23,8 +23,8 @@ returns-clause-list g c =
 pub returns-in_err-item-clause-error : goal.returns-in_err-item-clause-error
 returns-in_err-item-clause-error g c =
     let looks : Stays g.F.Format.stays c.loop-items.from c.next_in_list.new.from = search rules in
-    let failed : Reading g.R.DeserializeString.parses g.F.Source.string_returns g.F.Source.rejects c.next_in_list.new.from
-    (Err c.in_err-item.field-0.0) c.deserialize.new.from = search rules in
+    let failed : ReadingValue g.R.DeserializeString.parses g.F.Source.string_returns g.F.Source.rejects
+    c.next_in_list.new.from (Err c.in_err-item.field-0.0) c.deserialize.new.from = search rules in
     holds_of_error _ c.from_residual-in_err-item.result c.in_err-item.field-0.0 (search rules)
     (inr (_, _, _, c.in_ok-begin_list.ensures.given, c.loop-items.invariant, inr (inl (_, looks, failed))))
 

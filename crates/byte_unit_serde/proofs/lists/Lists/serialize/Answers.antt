@@ -3,7 +3,7 @@
 use Rattle.std.proofs.Common.{rules, ◌≡◌, length, subst, refl, Ok, Err}
 use Rattle.std.proofs.lemmas.Result.{on_ok_weaker}
 use Rattle.serde.proofs.Events.{WritesEach-more, WritesSeq-ends}
-use Rattle.byte_unit_serde.proofs.Writing.{Continues, continues_end, drop_value}
+use Rattle.byte_unit_serde.proofs.WrittenSequences.{Continues, continues_end, drop_value}
 use Rattle.byte_unit_serde.proofs.lists.Lists.serialize.Goals as goal
 
 -- The format failed at the beginning of the sequence: that error is returned.

@@ -1,7 +1,7 @@
 -- The values before the index were written, and the others are left.
 use Rattle.std.proofs.Common.{take, drop}
 use Rattle.serde.specs.Event.{WritesEach}
-use Rattle.byte_unit_serde.proofs.Writing.{Continues}
+use Rattle.byte_unit_serde.proofs.WrittenSequences.{Continues}
 use Rattle.byte_unit_serde.proofs.lists.Lists.serialize.Given as goal
 
 -- A pair: the values before the index were written, and what is returned for the others is returned for all.

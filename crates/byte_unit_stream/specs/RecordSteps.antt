@@ -54,14 +54,14 @@ pub record IsAll {S E : Type 0} (relation : Relation S E) (records : List (List 
   pub messages_are : messages ≡ new.messages
 
 -- the same of the first of these records, for some number of them
-pub record IsFirst {S E : Type 0} (relation : Relation S E) (records : List (List ℕ)) (old : Progress S)
+pub record IsSomeFirst {S E : Type 0} (relation : Relation S E) (records : List (List ℕ)) (old : Progress S)
     (out messages : List ℕ) : Type 0 where
   pub first : List (List ℕ)
   pub is_beginning : IsBeginningOf first records
   pub all : IsAll relation first old out messages
 
 -- the same of the records before one that ends the run for this reason, whose own messages follow
-pub record IsStopped {S E : Type 0} (relation : Relation S E) (records : List (List ℕ)) (old : Progress S)
+pub record IsEndedEarly {S E : Type 0} (relation : Relation S E) (records : List (List ℕ)) (old : Progress S)
     (reason : E) (out messages : List ℕ) : Type 0 where
   pub before : List (List ℕ)
   pub bytes : List ℕ
@@ -95,7 +95,7 @@ IsClosed relation old new (Err _) = ⊥
 abbrev pub AreConverted : {S E : Type 0} → Relation S E → List (List ℕ) → Progress S → Progress S
     → Result ⊤ (RunError E) → Type 0
 AreConverted relation records old new (Ok _) = AreSteps relation records old new
-AreConverted relation records old new (Err Memory) = IsFirst relation records old new.out new.messages
+AreConverted relation records old new (Err Memory) = IsSomeFirst relation records old new.out new.messages
 AreConverted relation records old new (Err (Ended reason)) =
-    IsStopped relation records old reason new.out new.messages
+    IsEndedEarly relation records old reason new.out new.messages
 AreConverted relation records old new (Err _) = ⊥

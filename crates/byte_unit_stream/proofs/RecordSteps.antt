@@ -3,7 +3,8 @@ use Rattle.std.proofs.Common.{◌≡◌, ℕ, ◌+◌, List, [], ◌∷◌, ◌+
 use Rattle.std.proofs.Common.{append_assoc, append-nil}
 use Rattle.std.specs.Prelude.{⊤}
 use Rattle.byte_unit_stream.specs.Chunks.{ended_records}
-use Rattle.byte_unit_stream.specs.Steps.{Adds, AreConverted, AreSteps, IsFirst, IsStep, Progress, Relation, start_at}
+use Rattle.byte_unit_stream.specs.RecordSteps.{Adds, AreConverted, AreSteps, IsSomeFirst, IsStep, Progress, Relation}
+use Rattle.byte_unit_stream.specs.RecordSteps.{start_at}
 use Rattle.byte_unit_stream.specs.declared.run.RunError.{RunError}
 use Rattle.byte_unit_stream.specs.declared.run.RunError.TheVariants.{Memory, Read, Write, Ended}
 use Rattle.byte_unit_stream.proofs.Beginnings.{IsBeginningOf-after}
@@ -128,10 +129,10 @@ module _ {S E : Type 0} (relation : Relation S E) where
       (ended_records end [] (drop (place + 1) rest)) now next new result (next, adds, refl) (rw (part_is, rest_is) at at))
 
   -- whatever a call returns that converts records, its output is that of some first ones
-  pub IsFirst-converted : (records : List (List ℕ)) (old new : Progress S) (result : Result ⊤ (RunError E))
+  pub IsSomeFirst-converted : (records : List (List ℕ)) (old new : Progress S) (result : Result ⊤ (RunError E))
       → AreConverted relation records old new result
-      → (messages : List ℕ) × IsFirst relation records old new.out messages
-  IsFirst-converted records old new (Ok _) steps = (
+      → (messages : List ℕ) × IsSomeFirst relation records old new.out messages
+  IsSomeFirst-converted records old new (Ok _) steps = (
     new.messages,
     record {
       first = records;
@@ -139,8 +140,8 @@ module _ {S E : Type 0} (relation : Relation S E) where
       all = record { new = new; steps = steps; out_is = refl; messages_are = refl };
     },
   )
-  IsFirst-converted records old new (Err Memory) at = (new.messages, at)
-  IsFirst-converted records old new (Err (Ended reason)) at = (
+  IsSomeFirst-converted records old new (Err Memory) at = (new.messages, at)
+  IsSomeFirst-converted records old new (Err (Ended reason)) at = (
     at.new.messages,
     record {
       first = at.before;
@@ -148,5 +149,5 @@ module _ {S E : Type 0} (relation : Relation S E) where
       all = record { new = at.new; steps = at.steps; out_is = at.out_is; messages_are = refl };
     },
   )
-  IsFirst-converted records old new (Err Read) at = absurd at
-  IsFirst-converted records old new (Err Write) at = absurd at
+  IsSomeFirst-converted records old new (Err Read) at = absurd at
+  IsSomeFirst-converted records old new (Err Write) at = absurd at

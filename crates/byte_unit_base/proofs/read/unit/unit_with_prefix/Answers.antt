@@ -6,7 +6,7 @@ use Rattle.byte_unit_base.specs.Reading.Machines.{multiple_shape}
 use Rattle.byte_unit_base.specs.Reading.Ends.{multiple_of}
 use Rattle.byte_unit_base.specs.declared.unit.tables.TheConstants.{BY_POWER}
 use Rattle.byte_unit_base.specs.declared.unit.Unit.TheVariants.{Bit as UnitBit}
-use Rattle.byte_unit_base.proofs.read.unit.unit_of.Goals as goal
+use Rattle.byte_unit_base.proofs.read.unit.unit_with_prefix.Goals as goal
 
 -- the row of a position and the column 2 * binary + bit have the unit: evaluated for each
 at_place : (n : ℕ) → n ≤ 9 → (binary bit : Bool) (x y : ℕ) → x ≡ bool_byte binary → y ≡ bool_byte bit

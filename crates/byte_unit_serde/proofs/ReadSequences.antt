@@ -3,12 +3,12 @@ use Rattle.std.proofs.Common.{ℕ, List, [], ◌∷◌, ◌++◌, refl, subst, R
 use Rattle.serde.specs.Event.{Event}
 use Rattle.serde.specs.Steps.{Stays}
 use Rattle.serde.specs.declared.deserializer.Deserializer.{Deserializer}
-use Rattle.byte_unit_serde.specs.Serialized.{ReadsEach, ReadsString}
+use Rattle.byte_unit_serde.specs.Serialized.{ReadsEach, ReadsValue}
 
 -- If one more string is read after the others, the strings with it are read.
 pub reads_each_snoc : {A F E M : Type 0} (Means : List ℕ → A → Type 0) (gives : F → List ℕ → Event → F → Type 0)
     (stays : F → F → Type 0) (values : List A) (value : A) (old mid looked new : Deserializer F E M)
-    → ReadsEach Means gives stays old mid values → Stays stays mid looked → ReadsString Means gives looked new value
+    → ReadsEach Means gives stays old mid values → Stays stays mid looked → ReadsValue Means gives looked new value
     → ReadsEach Means gives stays old new (values ++ value ∷ [])
 reads_each_snoc {A} {F} {E} {M} Means gives stays [] value old mid looked new same looks reads =
     (looked, new, subst (λ (d : Deserializer F E M). Stays stays d looked) same looks, reads, refl)

@@ -1,6 +1,6 @@
 -- Nothing follows the last line.
 use Rattle.std.proofs.Common.{[], refl, sym, append-nil}
-use Rattle.byte_unit_lines.proofs.report.AnswersSteps.close.Goals as goal
+use Rattle.byte_unit_lines.proofs.report.AnswersRecordSteps.close.Goals as goal
 
 -- nothing is appended
 pub returns : goal.returns

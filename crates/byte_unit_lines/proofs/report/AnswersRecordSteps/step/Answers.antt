@@ -1,6 +1,6 @@
 -- The answer is appended to what waits; no message is.
 use Rattle.std.proofs.Common.{[], refl}
-use Rattle.byte_unit_lines.proofs.report.AnswersSteps.step.Goals as goal
+use Rattle.byte_unit_lines.proofs.report.AnswersRecordSteps.step.Goals as goal
 
 -- what was appended: the answer, that it is one, and that it follows what waited
 pub returns-in-Ok-clause-step : goal.returns-in-Ok-clause-step
