@@ -1,8 +1,9 @@
 //! The choice of a unit for a size: unit sets, the largest unit of a set in which a size is exact, and the largest that
 //! is not above it.
 
-ghost use Rattle.std.specs.Prelude.{◌≡◌, ◌+◌, ◌*◌, ◌<◌, ◌≤◌, ◌⊎◌, IfSome, IfNone};
-ghost use Rattle.byte_unit_math.specs.Bounds.{scale, size_limit};
+ghost use Rattle.std.specs.Prelude.{◌≡◌, ℕ, ◌+◌, ◌*◌, ◌<◌, ◌≤◌, ◌⊎◌, min, IfSome, IfNone};
+ghost use Rattle.byte_unit_math.specs.Bounds.{places_of_decimal, scale, size_limit, unit_limit, whole_limit};
+ghost use Rattle.byte_unit_math.specs.Exact.{IsExactAt, IsLeastPlaces};
 ghost use Rattle.byte_unit_math.specs.Steps.{saturating_add};
 ghost use Rattle.byte_unit_base.specs.Grammar.Shape.{bits};
 ghost use Rattle.byte_unit_base.specs.Sizes.Kinds.{bits_in};
@@ -16,7 +17,7 @@ use crate::UnitType;
 use crate::tables::{ALL, BITS, BYTES, UnitRow};
 use byte_unit_base::{Kind, PREFIXES, Unit};
 use byte_unit_math::{
-    DECIMAL_PLACES, Decimal, Factors, Steps, exact_number, factored_quotient, factors_of,
+    DECIMAL_PLACES, Decimal, Factors, Steps, exact_quotient, factored_quotient, factors_of,
 };
 
 /// The set of units that a choice may take. All of them have a prefix: `Bit` and `B` are in no set.
@@ -101,7 +102,7 @@ pub fn choose_unit(
             // Each place supplies one factor 2 and one factor 5, so there are as many as the size lacks of either.
             let places = lacking.max(row.fives.saturating_sub(fives));
             let number = if places > FEW_PLACES {
-                exact_number(in_bits, row.twos, row.fives, most, steps)
+                quotient_by(row, in_bits, most, steps)
             } else {
                 let factors = Factors { left, twos, fives };
                 factored_quotient(factors, row.twos, row.fives, places, steps)
@@ -110,6 +111,20 @@ pub fn choose_unit(
         }
     }
     None
+}
+
+/// Returns a size of `in_bits` bits in the unit of a row, in which it is exact within `most` places, by long division.
+#[inline(never)]
+fn quotient_by(row: &UnitRow, in_bits: u128, most: u32, steps: &mut Steps) -> Decimal
+    requires some_unit { 1 ≤ row.now.bits }
+    requires small_unit { row.now.bits ≤ unit_limit }
+    requires small_size { in_bits < whole_limit }
+    requires exact { IsExactAt in_bits row.now.bits (min most places_of_decimal) }
+    ensures exact { result * row.now.bits ≡ in_bits * scale }
+    ensures steps { (least : ℕ) × IsLeastPlaces result scale least
+        × (steps.new ≡ saturating_add steps.old least) }
+{
+    exact_quotient(in_bits, row.bits, most, steps).unwrap()
 }
 
 /// Returns the size in the largest unit, not above it, in which it is exact within `precision` decimal places: the

@@ -5,11 +5,11 @@
 -- text that is `found` is the text, and that it is by the rule.
 use Rattle.std.proofs.lemmas.Grind.{common_steps}
 use Rattle.std.proofs.Common.{◌≡◌, ℕ, ◌+◌, ◌*◌, ◌/◌, ◌%◌, ◌^◌, ◌<◌, ◌≤◌, ◌++◌, ⊎_elim, List, arith, ap, sym, refl, ◌∙◌}
+use Rattle.std.proofs.Common.{length, ◌-◌}
 use Rattle.std.specs.Fmt.{decimal}
-use Rattle.std.proofs.Math.Nat.{div-add-mod', mod-eq_of_lt, pow-le-pow_right}
+use Rattle.std.proofs.Math.Nat.{div-add-mod', mod-eq_of_lt}
 use Rattle.std.proofs.lemmas.Nat.{pow-add, mul-pow, mod_below}
 use Rattle.std.proofs.lemmas.Bool.{cases_lt}
-use Rattle.byte_unit_math.specs.Bounds.{size_limit}
 use Rattle.byte_unit_math.specs.Finite.{Finite, IsExpansion, ulps_of}
 use Rattle.byte_unit_math.specs.Nearest.{IsNearest}
 use Rattle.byte_unit_math.specs.Padded.{pad_of}
@@ -19,9 +19,9 @@ use Rattle.byte_unit_math.specs.declared.expansion.Ties.{Ties}
 use Rattle.byte_unit_math.specs.declared.expansion.Ties.TheVariants.{Even, Up}
 use Rattle.byte_unit_math.proofs.Digits.{one_le_pow10, length_last_digits, last_digits_below_ten, value_of_last_digits}
 use Rattle.byte_unit_math.proofs.Digits.{scaled_at_places}
-use Rattle.byte_unit_math.proofs.Nearest.{lies_above_quotient, nearest_down, nearest_up, tie_up_next, nearest_even_next}
-use Rattle.byte_unit_math.proofs.Nearest.{nearest_even_this}
+use Rattle.byte_unit_math.proofs.Nearest.{nearest_down, rounds_up_even, rounds_down_even, rounds_up_half, rounds_down_half}
 use Rattle.byte_unit_math.proofs.Texts.{same_finite, expansion_unique, nearest_unique, short_numeral_is_expansion}
+use Rattle.byte_unit_math.proofs.Scales.{pow10_split}
 use Rattle.byte_unit_math.proofs.Texts.{expansion_of_same_fraction}
 use Rattle.byte_unit_base.specs.Grammar.Shape.{Shape, bits, twos, fives}
 use Rattle.byte_unit_base.specs.Grammar.Version.{Version, unit_name, unit_name_in}
@@ -53,22 +53,11 @@ adjusted_form_unique {version} {kind} {size} {unit} {spec} form other =
 
 -- For each quotient there is a nearest multiple of 10^-places, whichever way ties are broken.
 nearest_exists : (num den places : ℕ) (ties : Ties) → 0 < den → (q : ℕ) × IsNearest num den places ties q
-nearest_exists num den places Even some =
-    let below = num * 10 ^ places / den in
-    let rest = num * 10 ^ places % den in
-    let lies = lies_above_quotient num den places (num * 10 ^ places) below rest refl some refl refl in
-    ⊎_elim (λ more. (below + 1, nearest_even_next num den places below rest lies more))
-    (λ most. (below, nearest_even_this num den places below rest lies most)) (cases_lt den (2 * rest + below % 2))
-nearest_exists num den places Up some =
-    let below = num * 10 ^ places / den in
-    let rest = num * 10 ^ places % den in
-    let lies = lies_above_quotient num den places (num * 10 ^ places) below rest refl some refl refl in
-    ⊎_elim (λ less. (below, nearest_down num den places below rest lies Up less))
-    (λ at_least.
-    ⊎_elim (λ more. (below + 1, nearest_up num den places below rest lies Up more))
-    (λ most. (below + 1, tie_up_next num den places below rest lies (omega (arith, at_least, most))))
-    (cases_lt den (2 * rest)))
-    (cases_lt (2 * rest) den)
+nearest_exists num den places Even some = ⊎_elim (λ more. (_, rounds_up_even num den places some more))
+    (λ most. (_, rounds_down_even num den places some most))
+    (cases_lt den (2 * (num * 10 ^ places % den) + num * 10 ^ places / den % 2))
+nearest_exists num den places Up some = ⊎_elim (λ less. (_, rounds_down_half num den places some less))
+    (λ most. (_, rounds_up_half num den places some most)) (cases_lt (2 * (num * 10 ^ places % den)) den)
 
 -- 10^(twos + fives) is a multiple of 2^twos * 5^fives.
 pow10_of_sum : (twos fives : ℕ) → 10 ^ (twos + fives) ≡ (5 ^ twos * 2 ^ fives) * (2 ^ twos * 5 ^ fives)
@@ -118,11 +107,19 @@ scaled_text number places whole digits whole_is digits_is =
     (length_last_digits places digits ∙ sym (length_last_digits places number))
     (sum ∙ sym (scaled_at_places places number)))
 
--- A size in bits, scaled by a power of ten with at most seven zeros, is below 2^127.
-pub scaled_size_small : (size bits power places : ℕ) → size < size_limit → bits ≤ 8 → power ≡ 10 ^ places → places ≤ 7
-    → size * bits * power < 2 ^ 127
-scaled_size_small size bits power places small few power_is at_most =
-    grind (arith, pow-le-pow_right {n = 10} (omega arith) {i = places} {j = 7} at_most)
+-- A quotient with at most p digits after the point is its own nearest decimal, whichever way ties are broken.
+pub exact_is_nearest : (num den p : ℕ) (e : Finite) (ties : Ties) → 0 < den → length e.digits ≤ p → IsExpansion num den e
+    → (q : ℕ) × IsNearest num den p ties q × IsExpansion q (10 ^ p) e
+exact_is_nearest num den p e ties some few h =
+    let behind = 10 ^ (p - length e.digits) in
+    let q : ℕ = ulps_of e * behind in
+    let exact : num * 10 ^ p ≡ q * den =
+    omega (arith, ap (λ n. num * n) (pow10_split (length e.digits) p few), ap (λ n. n * behind) h.exact) in (
+      q,
+      nearest_down num den p q 0 (record { split = omega (arith, exact); below = some }) ties (omega (arith, some)),
+      expansion_of_same_fraction num den q (10 ^ p) e
+          (record { positive = some; positive' = one_le_pow10 p; same = exact }) h,
+    )
 
 -- The text of a number by the rounding of the spec, laid out with the unit, is the adjusted text.
 pub adjusted_by_rounding :

@@ -21,7 +21,7 @@ use Rattle.byte_unit_base.specs.declared.unit.Unit.TheVariants.{Bit}
 use Rattle.byte_unit_choice.proofs.Choosing.{some_bits}
 
 -- No unit has more bits than the limit: evaluated for each unit.
-unit_below_limit : (unit : UnitName) → leb (bits (shape_of unit)) unit_limit ≡ true
+pub unit_below_limit : (unit : UnitName) → leb (bits (shape_of unit)) unit_limit ≡ true
 unit_below_limit Bit = refl
 unit_below_limit _ = refl
 

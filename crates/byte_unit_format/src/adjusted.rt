@@ -1,12 +1,15 @@
 //! Formatting of a size in a given unit.
 
-ghost use Rattle.std.specs.Prelude.{◌≡◌, ℕ, ◌*◌, ◌^◌, ◌<◌, ◌≤◌, List, length, IfSome, Some};
+ghost use Rattle.std.specs.Prelude.{◌≡◌, ℕ, ◌*◌, ◌^◌, ◌<◌, ◌≤◌, List, length, IfSome, Some, true};
 ghost use Rattle.std.specs.Fmt.{DisplaysOnOk, DisplaysStyledOnOk};
 ghost use Rattle.byte_unit_math.specs.Finite.{IsExpansion};
+ghost use Rattle.byte_unit_math.specs.Nearest.{IsNearest};
 ghost use Rattle.byte_unit_math.specs.Numeral.{text_of};
 ghost use Rattle.byte_unit_math.specs.Padded.{pad_of};
+ghost use Rattle.byte_unit_math.specs.ShortExpansion.{IsShortExpansion};
+ghost use Rattle.byte_unit_math.specs.declared.expansion.Ties.TheVariants.{Up};
 ghost use Rattle.byte_unit_base.specs.Grammar.Shape.{bits};
-ghost use Rattle.byte_unit_math.specs.Bounds.{size_limit};
+ghost use Rattle.byte_unit_math.specs.Bounds.{bits_limit, size_limit};
 ghost use Rattle.byte_unit_base.specs.Grammar.Units.{shape_of};
 ghost use Rattle.byte_unit_base.specs.Sizes.Kinds.{bits_in};
 ghost use Rattle.byte_unit_format.specs.Rounding.{rule_from, FitsRounding, IsRoundingOf};
@@ -20,7 +23,10 @@ use crate::FormatSpec;
 use crate::layout::{append_layout, layout_parts, write_layout};
 use crate::parts::{Fraction, TextParts};
 use byte_unit_base::{Kind, Unit};
-use byte_unit_math::{Expansion, Ties, div_rem, power_of_ten, rounded_quotient, short_expansion};
+use byte_unit_math::{
+    Expansion, ShortExpansion, Ties, div_rem, power_of_ten, rounded_expansion, rounded_quotient,
+    short_expansion,
+};
 use std::alloc::{AllocError, Allocator};
 use std::fmt;
 use std::fmt::Display;
@@ -32,6 +38,9 @@ const ALTERNATE_PLACES: u16 = 16;
 /// Up to this many digits after the point, a number is rounded by one division: any size in bits times 10^7 fits 127
 /// bits.
 const ONE_DIVISION_PLACES: u32 = 7;
+
+/// Up to this many, a size of fewer than 2^64 bits is: times 10^18, such a size fits 127 bits too.
+const ONE_DIVISION_PLACES_U64: u32 = 18;
 
 /// How the number of a size in a unit is rounded.
 #[derive(Clone, Copy)]
@@ -169,6 +178,9 @@ fn write_full(
     ensures written { WritesForm (IsAdjustedForm kind size unit spec) out.old out.new result }
     ensures bound { result < text_limit }
 {
+    if let Some(parts) = alternate_parts(size, kind, unit, rounding, spec) {
+        return parts.write(out);
+    }
     let mut number = number_in_unit(size, kind, unit);
     let places = round(&mut number, rounding);
     write_layout(&number, places, unit, spec, out)
@@ -194,9 +206,9 @@ fn rounding_of(unit: Unit, spec: FormatSpec) -> Rounding
 }
 
 /// Returns the parts of a size in a unit with the unit, if one product and one division give the number: all digits if
-/// they are at most 38, or at most seven to which ties to even round.
+/// they are at most 38, or the nearest decimal, ties to even.
 #[inline(always)]
-#[tactic(auto, using(crate::proofs::AdjustedForms::scaled_size_small, byte_unit_math::proofs::Digits::one_le_pow10))]
+#[tactic(auto, using(byte_unit_math::proofs::Digits::one_le_pow10))]
 fn short_parts(
     size: u128,
     kind: Kind,
@@ -219,14 +231,69 @@ fn short_parts(
             let fraction = Fraction::Last(number.digits, number.places);
             Some(layout_parts(number.whole, fraction, unit, spec))
         }
-        Rounding::To(places) if places <= ONE_DIVISION_PLACES => {
+        Rounding::To(places) if takes_one_division(in_bits, places) => {
             let power = power_of_ten(places);
-            let number = rounded_quotient(in_bits * power, unit.as_bits_u128());
+            let number = rounded_quotient(in_bits * power, unit.as_bits_u128(), Ties::Even);
             let (whole, digits) = div_rem(number, power);
             Some(layout_parts(whole, Fraction::Last(digits, places), unit, spec))
         }
         _ => None,
     }
+}
+
+/// Returns the parts of a size in a unit with the unit, if the number is rounded as in the alternate form, and one
+/// product and one division give it.
+#[inline(always)]
+fn alternate_parts(
+    size: u128,
+    kind: Kind,
+    unit: Unit,
+    rounding: Rounding,
+    spec: FormatSpec,
+) -> Option<TextParts<'static>>
+    requires bound { size < size_limit }
+    requires rounding { IsRoundingOf unit spec rounding }
+    ensures text { IfSome result (λ parts. IsAdjustedForm kind size unit spec (parts_text parts)) }
+    ensures len { IfSome result (λ parts. parts.len ≡ length (parts_text parts)) }
+    ensures bound { IfSome result (λ parts. parts.len < text_limit) }
+    ensures ready { IfSome result (λ parts. IsReady parts) }
+{
+    let Rounding::AtMost(places) = rounding else {
+        return None;
+    };
+    let number = at_most(size * kind.bits(), unit, places)?;
+    let fraction = Fraction::Last(number.digits, number.places);
+    Some(layout_parts(number.whole, fraction, unit, spec))
+}
+
+/// Returns a number of bits in the unit, rounded to at most `places` digits after the point, ties up: all its digits if
+/// they are no more, or else the nearest decimal if one division gives it.
+#[inline(always)]
+fn at_most(in_bits: u128, unit: Unit, places: u32) -> Option<ShortExpansion>
+    requires { in_bits < bits_limit }
+    ensures { IfSome result (λ e. (number : ℕ)
+        × IsNearest in_bits (bits (shape_of unit)) places Up number
+        × IsShortExpansion number (10 ^ places) e) }
+{
+    let (twos, fives) = unit.powers();
+    if let Some(exact) = short_expansion(in_bits, twos, fives) {
+        if exact.places <= places {
+            return Some(exact);
+        }
+    }
+    if takes_one_division(in_bits, places) {
+        return Some(rounded_expansion(in_bits, unit.as_bits_u128(), places));
+    }
+    None
+}
+
+/// Returns whether one division rounds a number of bits in a unit: if the bits times the power of ten fit 127 bits.
+#[inline(always)]
+fn takes_one_division(in_bits: u128, places: u32) -> bool
+    requires { in_bits < bits_limit }
+    ensures { result ≡ true → (places ≤ 18) × (in_bits * 10 ^ places < 2 ^ 127) }
+{
+    places <= ONE_DIVISION_PLACES || (in_bits < 1 << 64 && places <= ONE_DIVISION_PLACES_U64)
 }
 
 /// Rounds a number, and returns how many of its digits after the point are shown.

@@ -188,25 +188,6 @@ pub record EndsInRunOf (e : Finite) (p kept digit : ℕ) : Type 0 where
   pub same : take p e.digits ≡ take kept e.digits ++ replicate (p - kept) digit
   pub stops : 0 < kept → get_or e.digits (kept - 1) 0 ≢ digit
 
--- If the array of the fields does so, the decimal of the fields does.
-pub EndsInRunOf-view : (i : Inside) (e : Finite) (p kept digit : ℕ) → IsNormalizedExpansion i → expansion_view i ≡ e
-    → p ≤ length e.digits → kept ≤ p → take p i.digits ≡ take kept i.digits ++ replicate (p - kept) digit
-    → (0 < kept → get_or i.digits (kept - 1) 0 ≢ digit) → EndsInRunOf e p kept digit
-EndsInRunOf-view i e p kept digit h v within few same stops =
-    let count = length_of_view i e h v in
-    let digits : e.digits ≡ take i.places i.digits = sym (ap (λ f. f.digits) v) in
-    record {
-      within = within;
-      few = few;
-      same = rw (
-        digits,
-        take-take p i.places i.digits (omega (arith, count, within)),
-        take-take kept i.places i.digits (omega (arith, count, within, few)),
-      ) same;
-      stops = λ some. rw (digits, get_or-take i.places i.digits (kept - 1) 0 (omega (arith, count, within, few, some)))
-          (stops some);
-    }
-
 -- An array of 93 digits begins with the first `kept` digits of `e`, and zeros follow.
 pub record BeginsWith (e : Finite) (kept : ℕ) (ds : List ℕ) : Type 0 where
   pub size : length ds ≡ expansion_places

@@ -1,24 +1,20 @@
 -- Long division with one digit per step, the expansion of a fraction by it, and where it ends.
 --
 -- That a fraction is `exact` at some places is a count, `exact.0`, and an equation, `exact.1`.
-use Rattle.std.proofs.Common.{◌≡◌, ℕ, ◌+◌, ◌-◌, ◌*◌, ◌/◌, ◌%◌, ◌^◌, ◌<◌, ◌≤◌, ⊎_elim, arith, ap, ◌∙◌, subst, ◌≢◌, List}
-use Rattle.std.proofs.Common.{length, take, drop, get_or, replicate, sym, refl, length-take-le, All, [], ◌++◌}
-use Rattle.std.proofs.Common.{append_assoc, take_at, drop_at, length-append, get_or-take}
-use Rattle.std.proofs.Math.Nat.{div-add-mod', mul-lt-mul_of_pos_right, eq_of_mul-eq-mul_right, one-le-pow}
+use Rattle.std.proofs.Common.{◌≡◌, ℕ, ◌+◌, ◌-◌, ◌*◌, ◌/◌, ◌%◌, ◌^◌, ◌<◌, ◌≤◌, ◌⊎◌, ⊎_elim, arith, ap, ◌∙◌, subst, ◌≢◌, List}
+use Rattle.std.proofs.Common.{length, take, drop, set, get_or, replicate, sym, refl, length-take-le, All}
+use Rattle.std.proofs.Math.Nat.{div-add-mod', mul-lt-mul_of_pos_right, eq_of_mul-eq-mul_right, pow-succ', one-le-pow}
 use Rattle.std.proofs.Math.Nat.{mul-le-mul_right}
 use Rattle.std.proofs.lemmas.Nat.{div_below, mod_below, same_from_place, mul-le}
 use Rattle.std.proofs.lemmas.Bool.{cases_lt}
 use Rattle.byte_unit_math.specs.Bounds.{scale, places_of_decimal, expansion_places, unit_limit}
 use Rattle.byte_unit_math.specs.Exact.{IsExactAt, IsLeastPlaces, IsQuotient}
 use Rattle.byte_unit_math.proofs.Scales.{pow10_bounds, pow10_times_rest, pow10_split, power_of_sum, exponent_at_most}
-use Rattle.byte_unit_math.specs.PutBefore.{PutsDigits}
-use Rattle.byte_unit_math.specs.Digits.{last_digits}
-use Rattle.byte_unit_math.specs.Bounds.{grouped_places, whole_limit}
-use Rattle.byte_unit_math.specs.ExpansionFields.{IsNormalizedExpansion}
-use Rattle.std.proofs.lemmas.List.{drop-drop, drop-replicate, length-replicate, replicate-append-replicate, take_all}
-use Rattle.std.proofs.lemmas.List.Elements.{All-take, All-get_or, All-append, All-nil, All-replicate}
+use Rattle.std.proofs.lemmas.List.{drop-set-lt, drop-drop, drop-replicate, length-set, length-replicate}
+use Rattle.std.proofs.lemmas.List.{get_or-set_same, get_or-take, take_all}
+use Rattle.std.proofs.lemmas.List.Elements.{All-set, All-replicate, All-take, All-get_or}
 use Rattle.byte_unit_math.specs.Finite.{value_of_digits, IsExpansion}
-use Rattle.byte_unit_math.proofs.Digits.{value_more, value_append, value_append_zeros, length_last_digits, last_digits_below_ten, value_of_last_digits, one_le_pow10}
+use Rattle.byte_unit_math.proofs.Digits.{value_more, value_more_set, one_le_pow10}
 use Rattle.std.proofs.lemmas.Grind.{common_steps}
 
 -- A quotient that is exact with some digits after the point is so with more.
@@ -114,81 +110,139 @@ fraction_below_one fraction digits room small =
     let product = mul-lt-mul_of_pos_right {k = 10 ^ (places_of_decimal - digits)} small (omega (arith, rest)) in
     omega (arith, product, pow10_times_rest digits room)
 
--- The array holds digits of the quotient in whole groups, then zeros, and `rest` is left.
-pub record IsDividing (numerator den whole rest places : ℕ) (groups : List ℕ) : Type 0 where
-  pub front : List ℕ
-  pub size : length front ≡ places
-  pub list_is : groups ≡ front ++ replicate (grouped_places - places) 0
-  pub in_groups : places % 10 ≡ 0
-  pub few : places ≤ grouped_places
-  pub small : All (λ d. d < 10) front
+-- Setting a digit of an array leaves the zeros after it.
+pub zeros_after_set : (n i d : ℕ) (ds : List ℕ) → drop i ds ≡ replicate (n - i) 0
+    → drop (i + 1) (set ds i d) ≡ replicate (n - (i + 1)) 0
+zeros_after_set n i d ds h =
+    let fewer : n - i - 1 ≡ n - (i + 1) = omega arith in
+    let behind : drop (i + 1) ds ≡ replicate (n - i - 1) 0 =
+    sym (drop-drop 1 i ds) ∙ (ap (drop 1) h ∙ drop-replicate 1 (n - i) 0) in
+    drop-set-lt (i + 1) ds i d (omega arith) ∙ (behind ∙ ap (λ k. replicate k 0) fewer)
+
+-- The array holds the first `places` digits of the quotient, then zeros, and `rest` is left; if nothing is left, the
+-- last digit is not zero.
+pub record IsDividing (numerator den whole rest places : ℕ) (digits : List ℕ) : Type 0 where
+  pub few : places ≤ expansion_places
+  pub size : length digits ≡ expansion_places
+  pub small : All (λ d. d < 10) digits
+  pub zeros : drop places digits ≡ replicate (expansion_places - places) 0
   pub below : rest < den
-  pub exact : numerator * 10 ^ places ≡ (whole * 10 ^ places + value_of_digits front) * den + rest
+  pub exact : numerator * 10 ^ places ≡ (whole * 10 ^ places + value_of_digits (take places digits)) * den + rest
+  pub last : rest ≡ 0 → 0 < places → 0 < get_or digits (places - 1) 0
 
--- The array has room for whole groups.
-pub IsDividing-long : {numerator den whole rest places : ℕ} {groups : List ℕ}
-    → IsDividing numerator den whole rest places groups → length groups ≡ grouped_places
-IsDividing-long {places = places} h =
-    ap length h.list_is ∙ (length-append h.front (replicate (grouped_places - places) 0)
-    ∙ omega (arith, h.size, length-replicate {A = ℕ} (grouped_places - places) 0, h.few))
-
--- A division that leaves a remainder so far, and is exact within 93 digits.
-module _ (numerator den whole rest places : ℕ) (groups : List ℕ)
-    (h : IsDividing numerator den whole rest places groups) (ends : IsExactAt numerator den expansion_places)
+-- A division that leaves a remainder so far, and ends after at most 93 digits.
+module _ (numerator den whole rest places : ℕ) (digits : List ℕ)
+    (h : IsDividing numerator den whole rest places digits) (ends : IsExactAt numerator den expansion_places)
     (some : rest ≢ 0) where
-  -- While a remainder is left, there is room for one more group.
-  pub IsDividing-room : places + 10 ≤ grouped_places
-  IsDividing-room = ⊎_elim (λ below. omega (arith, below, h.in_groups)) (λ reached.
-      let more = exact_more numerator den expansion_places places reached ends in
-      let none = rest_is_zero numerator den places _ rest h.exact h.below more in
-      absurd (some none)) (cases_lt places expansion_places)
+  -- While a remainder is left, the division has written fewer than 93 digits.
+  pub IsDividing-room : places < expansion_places
+  IsDividing-room = grind (arith, mul-le-mul_right, mul-lt-mul_of_pos_right, one-le-pow, pow-succ', rest_is_zero)
 
-  -- A step of the division: the next group is written, and the next remainder is left.
-  pub IsDividing-more : (next : List ℕ) → PutsDigits 10 (rest * 10 ^ 10 / den) (places + 10) groups next
-      → IsDividing numerator den whole (rest * 10 ^ 10 % den) (places + 10) next
-  IsDividing-more next put =
-      let group = rest * 10 ^ 10 / den in
+  -- A step of the division: the next digit is written, and the next remainder is left.
+  pub IsDividing-more : IsDividing numerator den whole (rest * 10 % den) (places + 1)
+      (set digits places (rest * 10 / den))
+  IsDividing-more =
+      let digit = rest * 10 / den in
       let positive : 0 < den = omega (arith, h.below) in
-      let digits = last_digits 10 group in
-      let len = length_last_digits 10 group in
-      let below : group < 10 ^ 10 = div_below (rest * 10 ^ 10) den (10 ^ 10) positive (omega (arith, h.below)) in
-      let power : 10 ^ (places + 10) ≡ 10 ^ 10 * 10 ^ places = power_of_sum 10 (places + 10) 10 places (omega arith) in
-      let back : places + 10 - 10 ≡ places = omega arith in
-      let zeros : drop (places + 10) groups ≡ replicate (grouped_places - (places + 10)) 0 =
-      sym (drop-drop 10 places groups)
-      ∙ (ap (λ l. drop 10 (drop places l)) h.list_is
-      ∙ (ap (drop 10) (drop_at h.front (replicate (grouped_places - places) 0) places h.size)
-      ∙ (drop-replicate 10 (grouped_places - places) 0
-      ∙ ap (λ k. replicate k 0) (let e : grouped_places - places - 10 ≡ grouped_places - (places + 10) = omega arith in e)))) in
-      let first : take (places + 10 - 10) groups ≡ h.front =
-      ap (λ k. take k groups) back ∙ (ap (take places) h.list_is
-      ∙ take_at h.front (replicate (grouped_places - places) 0) places h.size) in
-      let value : value_of_digits (h.front ++ digits) ≡ value_of_digits h.front * 10 ^ 10 + group =
-      value_append h.front digits ∙ rw (len, value_of_last_digits 10 group) (omega (arith, below)) in
+      let fits : places < length digits = omega (arith, IsDividing-room, h.size) in
+      let power : 10 ^ (places + 1) ≡ 10 * 10 ^ places = power_of_sum 10 (places + 1) 1 places (omega arith) in
+      let back : places + 1 - 1 ≡ places = omega arith in
+      let parts : den * digit + rest * 10 % den ≡ rest * 10 = omega arith in
       record {
-        front = h.front ++ digits;
-        size = length-append h.front digits ∙ omega (arith, len, h.size);
-        list_is = put ∙ (ap (λ l. l ++ (digits ++ drop (places + 10) groups)) first
-            ∙ (ap (λ l. h.front ++ (digits ++ l)) zeros ∙ sym (append_assoc h.front digits _)));
-        in_groups = omega (arith, h.in_groups);
-        few = IsDividing-room;
-        small = All-append (λ d. d < 10) h.front digits h.small (last_digits_below_ten 10 group);
-        below = mod_below (rest * 10 ^ 10) den positive;
-        exact = rw (power, value) (omega (arith, h.exact, div-add-mod' (rest * 10 ^ 10) den));
+        few = omega (arith, IsDividing-room);
+        size = length-set digits places digit ∙ h.size;
+        small = All-set (λ d. d < 10) digits places digit
+            (div_below (rest * 10) den 10 positive (omega (arith, h.below))) h.small;
+        zeros = zeros_after_set expansion_places places digit digits h.zeros;
+        below = omega arith;
+        exact = rw (power, value_more_set digits places digit fits) (omega (arith, h.exact, parts));
+        -- a remainder was left before the digit with which the division ends
+        last = λ z _. rw (back, get_or-set_same digits places digit 0 fits) (grind (arith, parts, z, some));
       }
 
--- Before the first group the array holds zeros, and the remainder of the whole part is left.
+-- Ten digits of a division by `den` are a group, and `left` is its remainder. After `count` of them are written, the
+-- others times 10^count are `shifted`.
+pub record IsPending (den left shifted count : ℕ) : Type 0 where
+  pub group : ℕ
+  pub shifted_is : shifted ≡ group * 10 ^ count
+  pub small : group < 10 ^ (10 - count)
+  pub below : left < den
+  pub few : count ≤ 10
+
+-- The remainder of the division by 10^10 * den, one digit at a time.
+abbrev pub pending_rest : ℕ → ℕ → ℕ → ℕ → ℕ
+pending_rest den left shifted count = shifted * den + left * 10 ^ count
+
+-- If digits that are not zero are to be written, or a remainder is left, something is left of the whole division.
+pub pending_rest-some : (den left shifted count : ℕ) → 0 < den
+    → (shifted ≢ 0) ⊎ ((shifted ≡ 0) × (left ≢ 0)) → pending_rest den left shifted count ≢ 0
+pending_rest-some den left shifted count positive some none = grind (arith, mul-le, one_le_pow10)
+
+-- After a group, its remainder is left.
+pub pending_rest-end : (den left shifted count : ℕ) → IsPending den left shifted count
+    → ((shifted ≡ 0) × (left ≡ 0)) ⊎ (10 ≤ count) → pending_rest den left shifted count ≡ left * 10 ^ 10
+pending_rest-end den left shifted count h ends = grind arith
+
+-- A digit of a group is the next one of the division by 10^10 * den, and leaves what is left there.
+pub IsPending-more : (den left shifted count : ℕ) → IsPending den left shifted count → count < 10
+    → (pending_rest den left shifted count * 10 / (den * 10 ^ 10) ≡ shifted / 10 ^ 9)
+    × (pending_rest den left shifted count * 10 % (den * 10 ^ 10) ≡ pending_rest den left (shifted % 10 ^ 9 * 10) (count + 1))
+    × IsPending den left (shifted % 10 ^ 9 * 10) (count + 1)
+IsPending-more den left shifted count h more =
+    let written = 10 ^ count in
+    let behind = 10 ^ (9 - count) in
+    let digit = h.group / behind in
+    let group = h.group % behind in
+    let one : 1 ≤ behind = one_le_pow10 (9 - count) in
+    let all : 10 ^ 9 ≡ behind * written = power_of_sum 10 9 (9 - count) count (omega (arith, more)) in
+    let next : 10 ^ (count + 1) ≡ 10 * written = power_of_sum 10 (count + 1) 1 count (omega arith) in
+    let group_small : group < behind = mod_below h.group behind one in
+    let parts : h.group ≡ digit * behind + group = sym (div-add-mod' h.group behind) in
+    let shifted_parts : shifted ≡ digit * 10 ^ 9 + group * written =
+    h.shifted_is ∙ (ap (λ n. n * written) parts ∙ omega (arith, ap (λ n. digit * n) all)) in
+    let tail_small : group * written < 10 ^ 9 =
+    rw all (mul-lt-mul_of_pos_right {k = written} group_small (one_le_pow10 count)) in
+    let split = same_from_place (shifted / 10 ^ 9) (shifted % 10 ^ 9) digit (group * written) (10 ^ 9)
+    (omega arith) tail_small (omega (arith, shifted_parts)) in
+    let shifted_next : shifted % 10 ^ 9 * 10 ≡ group * 10 ^ (count + 1) =
+    ap (λ n. n * 10) split.1 ∙ omega (arith, ap (λ n. group * n) next) in
+    let remainder = (group * den + left) * 10 ^ (count + 1) in
+    let remainder_is : pending_rest den left (shifted % 10 ^ 9 * 10) (count + 1) ≡ remainder =
+    ap (λ n. n * den + left * 10 ^ (count + 1)) shifted_next ∙ omega arith in
+    let product : behind * den * 10 ^ (count + 1) ≡ den * 10 ^ 10 =
+    ap (λ n. behind * den * n) next ∙ omega (arith, ap (λ n. den * 10 * n) all) in
+    let less : group * den + left < behind * den =
+    omega (arith, mul-le-mul_right {m = group + 1} {n = behind} den (omega (arith, group_small)), h.below) in
+    let remainder_small : remainder < den * 10 ^ 10 =
+    subst (λ n. remainder < n) product (mul-lt-mul_of_pos_right {k = 10 ^ (count + 1)} less (one_le_pow10 (count + 1))) in
+    let pending = pending_rest den left shifted count * 10 in
+    let pending_parts : pending ≡ digit * (den * 10 ^ 10) + remainder =
+    omega (arith, ap (λ n. n * den * 10) shifted_parts, ap (λ n. (group * den + left) * n) next) in
+    let step = same_from_place (pending / (den * 10 ^ 10)) (pending % (den * 10 ^ 10)) digit remainder (den * 10 ^ 10)
+    (mod_below pending (den * 10 ^ 10) (omega (arith, h.below))) remainder_small
+    (div-add-mod' pending (den * 10 ^ 10) ∙ pending_parts) in (
+      step.0 ∙ sym split.0,
+      step.1 ∙ sym remainder_is,
+      record {
+        group = group;
+        shifted_is = shifted_next;
+        small = subst (λ n. group < 10 ^ n) (let e : 9 - count ≡ 10 - (count + 1) = omega arith in e) group_small;
+        below = h.below;
+        few = omega (arith, more);
+      },
+    )
+
+-- Before the first digit the array holds zeros, and the remainder of the whole part is left.
 pub IsDividing-start : (whole rest den : ℕ) → rest < den
-    → IsDividing (whole * den + rest) den whole rest 0 (replicate grouped_places 0)
+    → IsDividing (whole * den + rest) den whole rest 0 (replicate expansion_places 0)
 IsDividing-start whole rest den below = record {
-  front = [];
-  size = refl;
-  list_is = refl;
-  in_groups = refl;
   few = omega arith;
-  small = All-nil (λ d. d < 10);
+  size = length-replicate {A = ℕ} expansion_places 0;
+  small = All-replicate (λ d. d < 10) expansion_places 0 (omega arith);
+  zeros = refl;
   below = below;
   exact = omega arith;
+  last = λ z p. absurd (omega (arith, p));
 }
 
 -- Digits represent ten times the number of all but the last, plus the last.
@@ -229,106 +283,12 @@ pub expansion_of_first_digits :
 expansion_of_first_digits num den whole places digits positive h =
     grind (arith, common_steps, length-take-le places digits h.few, expansion_of_digits, All-take, get_or-take)
 
--- The groups that a division has written when it leaves nothing: `kept` digits, the last of them not zero, and zeros.
-pub record IsKept (places kept : ℕ) (groups : List ℕ) : Type 0 where
-  pub few : kept ≤ places
-  pub same : take places groups ≡ take kept groups ++ replicate (places - kept) 0
-  pub last : 0 < kept → get_or groups (kept - 1) 0 ≢ 0
-
--- A division that leaves nothing has written the expansion, before zeros.
-module _ (num den whole rest places kept : ℕ) (groups : List ℕ)
-    (h : IsDividing num den whole rest places groups) (none : rest ≡ 0) (k : IsKept places kept groups) where
-  -- The digits that are kept.
-  abbrev shown : List ℕ
-  shown = take kept groups
-
-  -- The digits of the groups are those kept, and zeros.
-  front_is : h.front ≡ shown ++ replicate (places - kept) 0
-  front_is = sym (ap (take places) h.list_is ∙ take_at h.front _ places h.size) ∙ k.same
-
-  -- The array is the digits that are kept, and zeros.
-  groups_are : groups ≡ shown ++ replicate (grouped_places - kept) 0
-  groups_are =
-      let count : (places - kept) + (grouped_places - places) ≡ grouped_places - kept = omega (arith, k.few, h.few) in
-      h.list_is ∙ (ap (λ l. l ++ replicate (grouped_places - places) 0) front_is
-      ∙ (append_assoc shown (replicate (places - kept) 0) (replicate (grouped_places - places) 0)
-      ∙ ap (λ l. shown ++ l) (replicate-append-replicate (places - kept) (grouped_places - places) 0
-      ∙ ap (λ n. replicate n 0) count)))
-
-  -- There are as many digits as are kept.
-  count_is : length shown ≡ kept
-  count_is = length-take-le kept groups (omega (arith, IsDividing-long h, h.few, k.few))
-
-  -- The quotient is exact with these digits, without the zeros after them.
-  shown_exact : num * 10 ^ kept ≡ (whole * 10 ^ kept + value_of_digits shown) * den
-  shown_exact =
-      let behind = 10 ^ (places - kept) in
-      let value = ap value_of_digits front_is ∙ value_append_zeros shown (places - kept) in
-      let power = pow10_split kept places k.few in
-      eq_of_mul-eq-mul_right behind (one_le_pow10 (places - kept)) _ _
-      (omega (
-        arith,
-        h.exact,
-        none,
-        value,
-        ap (λ n. num * n) power,
-        ap (λ n. whole * n * den) power,
-        ap (λ n. n * den) value,
-      ))
-
-  -- These digits are the expansion.
-  pub IsDividing-ended : IsExpansion num den (record { whole = whole; digits = shown })
-  IsDividing-ended =
-      let cut : take kept h.front ≡ shown = ap (take kept) front_is ∙ take_at shown _ kept count_is in
-      expansion_of_digits num den whole shown (omega (arith, h.below)) (record {
-        small = subst (All (λ d. d < 10)) cut (All-take (λ d. d < 10) kept h.front h.small);
-        exact = rw count_is shown_exact;
-        last = λ some. rw count_is (grind (arith, get_or-take, k.last, count_is, some));
-      })
-
-  -- At most 93 digits are kept.
-  pub kept_few : IsExactAt num den expansion_places → kept ≤ expansion_places
-  kept_few ends = omega (arith, count_is, IsDividing-ended.least expansion_places ends)
-
-  -- The first 93 digits of the array are those that are kept, and zeros.
-  digits_are : kept ≤ expansion_places
-      → take expansion_places groups ≡ shown ++ replicate (expansion_places - kept) 0
-  digits_are few =
-      let split : grouped_places - kept ≡ (expansion_places - kept) + (grouped_places - expansion_places) =
-      omega (arith, few) in
-      let behind : List ℕ = replicate (grouped_places - expansion_places) 0 in
-      let zeros : replicate (grouped_places - kept) 0 ≡ replicate (expansion_places - kept) 0 ++ behind =
-      ap (λ n. replicate n 0) split
-      ∙ sym (replicate-append-replicate (expansion_places - kept) (grouped_places - expansion_places) 0) in
-      let front = shown ++ replicate (expansion_places - kept) 0 in
-      let all : groups ≡ front ++ behind =
-      groups_are ∙ (ap (λ l. shown ++ l) zeros ∙ sym (append_assoc shown (replicate (expansion_places - kept) 0) behind)) in
-      let count : length front ≡ expansion_places =
-      length-append shown (replicate (expansion_places - kept) 0)
-      ∙ omega (arith, count_is, length-replicate {A = ℕ} (expansion_places - kept) 0, few) in
-      ap (take expansion_places) all ∙ take_at front behind expansion_places count
-
-  -- The last of these is not zero.
-  last_is : kept ≤ expansion_places → 0 < kept → 0 < get_or (take expansion_places groups) (kept - 1) 0
-  last_is few some = rw (get_or-take expansion_places groups (kept - 1) 0 (omega (arith, few, some))) (omega (arith, k.last some))
-
-  -- With the first 93 digits of the array, the fields satisfy their invariant.
-  pub IsDividing-normalized : IsExactAt num den expansion_places → whole < whole_limit
-      → IsNormalizedExpansion (record { whole = whole; digits = take expansion_places groups; places = kept })
-  IsDividing-normalized ends below =
-      let few = kept_few ends in
-      let is = digits_are few in
-      let zeros : List ℕ = replicate (expansion_places - kept) 0 in
-      record {
-        size = length-take-le expansion_places groups (omega (arith, IsDividing-long h));
-        few = few;
-        small = subst (All (λ d. d < 10)) (sym is) (All-append (λ d. d < 10) shown zeros IsDividing-ended.small
-            (All-replicate (λ d. d < 10) (expansion_places - kept) 0 (omega arith)));
-        rest = ap (drop kept) is ∙ drop_at shown zeros kept count_is;
-        last = λ some. last_is few some;
-        bound = omega (arith, below);
-        room = λ _. below;
-      }
+-- A division that leaves nothing has written the expansion.
+pub IsDividing-ended :
+    (num den whole rest places : ℕ) (digits : List ℕ) → IsDividing num den whole rest places digits → rest ≡ 0
+    → IsExpansion num den (record { whole = whole; digits = take places digits })
+IsDividing-ended num den whole rest places digits h none =
+    grind (arith, All-get_or, All-take, expansion_of_digits, get_or-take, length-take-le, value_by_last_digit)
 
 -- If 2^a * 5^b is at most 2^93, a is at most 93, and b at most 40.
 pub exponents_within_places : (a b : ℕ) → 2 ^ a * 5 ^ b ≤ unit_limit → (a ≤ expansion_places) × (b ≤ 40)
@@ -355,16 +315,13 @@ product_positive a b = mul-le 1 1 (2 ^ a) (5 ^ b) (one-le-pow a 2 (omega arith))
 -- The facts about a denominator 2^a * 5^b that the proofs of expansions use.
 pub ruleset powers = (exponents_within_places, product_positive, powers_are_exact)
 
--- A fraction over 10^28 is exact with 93 digits after the point.
-pub decimal_is_exact : (num : ℕ) → IsExactAt num (scale) expansion_places
-decimal_is_exact num = (num * 10 ^ (expansion_places - places_of_decimal), omega arith)
+-- A fraction over at most 10^93 is exact with 93 digits after the point.
+pub power_of_ten_is_exact : (num places : ℕ) → places ≤ expansion_places → IsExactAt num (10 ^ places) expansion_places
+power_of_ten_is_exact num places few =
+    (num * 10 ^ (expansion_places - places), omega (arith, ap (λ n. num * n) (pow10_split places expansion_places few)))
 
 -- A fraction over 2^a * 5^b, given by its whole part and remainder, is exact with 93 digits after the point.
 pub new_is_exact :
     (num x y a b : ℕ) → x ≡ 2 ^ a → y ≡ 5 ^ b → 2 ^ a * 5 ^ b ≤ unit_limit
     → IsExactAt (num / (x * y) * (x * y) + num % (x * y)) (x * y) expansion_places
 new_is_exact num x y a b hx hy h = rw (hx, hy, div-add-mod' num (2 ^ a * 5 ^ b)) (powers_are_exact num a b h)
-
--- A number is its whole part and its fraction.
-pub decimal_parts : (n : ℕ) → n / scale * scale + n % scale ≡ n
-decimal_parts n = omega arith

@@ -69,3 +69,16 @@ rounds_up_even num den p some h =
 pub rounds_down_even : (num den p : ℕ) → 0 < den → 2 * (num * 10 ^ p % den) + num * 10 ^ p / den % 2 ≤ den
     → IsNearest num den p Even (num * 10 ^ p / den)
 rounds_down_even num den p some h = grind (arith, lies_above_quotient, nearest_even_this)
+
+-- If ties go up, a quotient is rounded up if at least half of the divisor is left.
+pub rounds_up_half : (num den p : ℕ) → 0 < den → den ≤ 2 * (num * 10 ^ p % den)
+    → IsNearest num den p Up (num * 10 ^ p / den + 1)
+rounds_up_half num den p some h = grind (arith, lies_above_quotient, nearest_up, tie_up_next)
+
+-- If ties go up, a quotient is rounded down if less than half of the divisor is left.
+pub rounds_down_half : (num den p : ℕ) → 0 < den → 2 * (num * 10 ^ p % den) < den
+    → IsNearest num den p Up (num * 10 ^ p / den)
+rounds_down_half num den p some h = grind (arith, lies_above_quotient, nearest_down)
+
+-- The quotient that is nearest, by what is left.
+pub ruleset rounded = (rounds_up_even, rounds_down_even, rounds_up_half, rounds_down_half)

@@ -168,14 +168,10 @@ IsLeastPlaces-same_fraction {num} {den} {num'} {den'} {p} same h =
 pub expansion_of_same_fraction :
     (num den num' den' : ℕ) (e : Finite) → SameFraction num den num' den' → IsExpansion num den e
     → IsExpansion num' den' e
+unfolding IsLeastPlaces-same_fraction
 expansion_of_same_fraction num den num' den' e same h =
-    let swapped : SameFraction num' den' num den =
-    record { positive = same.positive'; positive' = same.positive; same = sym same.same } in
-    record {
-      small = h.small;
-      exact = same_places num' den' num den (length e.digits) (ulps_of e) swapped h.exact;
-      least = λ p k. h.least p (k.0, same_places num den num' den' p k.0 same k.1);
-    }
+    let least = IsLeastPlaces-same_fraction same (record { has = (ulps_of e, h.exact); least = h.least }) in
+    record { small = h.small; exact = least.has.1; least = least.least }
 
 -- If num / den is exact with 93 digits after the point, the quotient cut off there without trailing zeros is its
 -- expansion.

@@ -31,10 +31,6 @@ bits_limit = 8 * size_limit
 abbrev pub expansion_places : ℕ
 expansion_places = 93
 
--- As many digits as whole groups of ten take that begin within the digits of an expansion.
-abbrev pub grouped_places : ℕ
-grouped_places = 100
-
 -- The largest number of bits of a unit, 2^93.
 abbrev pub unit_limit : ℕ
 unit_limit = 2 ^ expansion_places

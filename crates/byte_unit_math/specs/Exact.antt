@@ -1,6 +1,6 @@
 -- Exact quotients: with how many digits after the point a quotient is a terminating decimal.
-use Rattle.std.specs.Prelude.{◌≡◌, ℕ, ◌*◌, ◌^◌, ◌-◌, ◌<◌, ◌≤◌, ◌⊎◌, min}
-use Rattle.byte_unit_math.specs.Bounds.{bits_limit, places_of_decimal, unit_limit}
+use Rattle.std.specs.Prelude.{◌≡◌, ℕ, ◌*◌, ◌^◌, ◌-◌, ◌≤◌, ◌⊎◌}
+use Rattle.byte_unit_math.specs.Bounds.{places_of_decimal}
 use Rattle.byte_unit_math.specs.Least.{IsLeast}
 
 -- size / unit is a decimal of this many digits after the point: size * 10^places is a multiple of unit.
@@ -24,10 +24,3 @@ pub record IsFirstExact (size unit most places : ℕ) : Type 0 where
   pub few : places ≤ most
   pub first : (fewer : ℕ) → IsExactAt size unit fewer → places ≤ fewer
   pub ends : IsExactAt size unit places ⊎ (places ≡ most)
-
--- The numerator is that of a size, `2^twos * 5^fives` is at most the largest unit, and the quotient is exact within
--- `places` digits after the point, or within 28 if that is less.
-pub record IsExactWithin (numerator twos fives places : ℕ) : Type 0 where
-  pub small : numerator < bits_limit
-  pub den : 2 ^ twos * 5 ^ fives ≤ unit_limit
-  pub exact : IsExactAt numerator (2 ^ twos * 5 ^ fives) (min places places_of_decimal)

@@ -3,7 +3,8 @@ ghost use Rattle.std.specs.Prelude.{◌≡◌, ℕ, ◌+◌, ◌*◌, ◌/◌, �
 ghost use Rattle.byte_unit_math.specs.Bounds.{unit_limit};
 ghost use Rattle.byte_unit_math.specs.Inverse.{HasInverse};
 ghost use Rattle.byte_unit_math.specs.Nearest.{IsNearest};
-ghost use Rattle.byte_unit_math.specs.declared.expansion.Ties.TheVariants.{Even};
+
+use crate::expansion::Ties;
 
 /// The number of digits that a step of a long division takes: the remainder, below a denominator of at most 10^28,
 /// times 10^10 fits 128 bits.
@@ -44,31 +45,30 @@ pub fn div_rem(dividend: u128, divisor: u128) -> (u128, u128)
     }
 }
 
-/// Returns `numerator / divisor` rounded to the nearest whole number, a tie to the even one.
+/// Returns `numerator / divisor` rounded to the nearest whole number, ties as `ties` says.
 ///
 /// Precondition (proved at every call): `numerator < 2^127` and `1 <= divisor <= 2^93`.
 ///
 /// # Examples
 /// ```rust
-/// assert_eq!(rt; (rounded_quotient(5, 2), rounded_quotient(7, 2)), (2, 4));
-/// assert_eq!(rt; rounded_quotient(8, 3), 3);
+/// assert_eq!(rt; (rounded_quotient(5, 2, Ties::Even), rounded_quotient(5, 2, Ties::Up)), (2, 3));
+/// assert_eq!(rt; rounded_quotient(8, 3, Ties::Even), 3);
 /// ```
 #[inline]
-#[tactic(auto, using(crate::proofs::Nearest::rounds_up_even, crate::proofs::Nearest::rounds_down_even))]
-pub fn rounded_quotient(numerator: u128, divisor: u128) -> u128
+#[tactic(auto, using(crate::proofs::Nearest::rounded))]
+pub fn rounded_quotient(numerator: u128, divisor: u128, ties: Ties) -> u128
     requires bound { numerator < 2 ^ 127 }
     requires positive { 1 ≤ divisor }
     requires divisor_bound { divisor ≤ unit_limit }
     ensures { (number places : ℕ) → numerator ≡ number * 10 ^ places
-        → IsNearest number divisor places Even result }
+        → IsNearest number divisor places ties result }
 {
     let (quotient, rest) = div_rem(numerator, divisor);
-    // Rounds up if more than half of the divisor is left, or just half and the quotient is odd.
-    let odd = quotient % 2;
-    if 2 * rest + odd > divisor {
-        quotient + 1
-    } else {
-        quotient
+    // Rounds up if more than half of the divisor is left, or just half and the tie goes up.
+    match ties {
+        Ties::Even if 2 * rest + quotient % 2 > divisor => quotient + 1,
+        Ties::Up if 2 * rest >= divisor => quotient + 1,
+        Ties::Even | Ties::Up => quotient,
     }
 }
 

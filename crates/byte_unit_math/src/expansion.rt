@@ -8,12 +8,11 @@ ghost use Rattle.byte_unit_math.specs.Exact.{IsExactAt};
 ghost use Rattle.byte_unit_math.specs.Finite.{IsExpansion, ulps_of, cut_after};
 ghost use Rattle.byte_unit_math.specs.Nearest.{IsNearest};
 ghost use Rattle.byte_unit_math.specs.Numeral.{fraction_text, glyphs, text_of};
-ghost use Rattle.byte_unit_math.specs.PutBefore.{FitBefore, PutsDigits};
 
-use crate::decimal::{Decimal, ONE};
+use crate::decimal::Decimal;
 use crate::decimal_digits::fmt_u128;
 use crate::dividing::{GROUP_DIGITS, div_rem, div_rem_unit};
-use crate::tens::{power_of_five, power_of_two};
+use crate::tens::{power_of_five, power_of_ten, power_of_two};
 use std::marker::Model;
 use std::{fmt, str};
 
@@ -92,11 +91,10 @@ impl Expansion {
     /// let e = Expansion::from_decimal(Decimal::from_digits(50, 84, 3));
     /// assert_eq!(rt; (e.whole(), e.places(), e.digit(3)), (50, 3, 4));
     /// ```
-    #[tactic(auto, using(crate::proofs::Expanding::decimal_is_exact, crate::proofs::Expanding::decimal_parts))]
     pub fn from_decimal(d: Decimal) -> Expansion
         ensures { IsExpansion d scale result }
     {
-        divide(d.whole(), d.fraction(), ONE)
+        divide(d.whole(), d.digits(), power_of_ten(d.places()))
     }
 
     /// Returns the part before the point.
@@ -226,23 +224,39 @@ impl Expansion {
         }
     }
 
+    /// Returns the length of the first `places` digits without those at their end that equal `last`.
+    fn trim_end_len(&self, places: u32, last: u8) -> u32
+        requires { places ≤ length self.now.digits }
+        ensures bound { result ≤ places }
+        ensures same { take places self.now.digits
+            ≡ take result self.now.digits ++ replicate (places - result) last }
+        ensures stops { 0 < result → slice_index self.now.digits (result - 1) ≢ last }
+    {
+        let mut kept = places;
+        while kept > 0 && self.digit(kept) == last {
+            kept -= 1;
+        }
+        kept
+    }
+
     /// Rounds down to `places` digits after the point.
     fn floor_to(&mut self, places: u32)
         requires { places ≤ length self.old.digits }
         ensures { IsExpansion (ulps_of (cut_after places self.old)) (10 ^ places) self.new }
     {
-        let kept = trim_end_len(&self.digits, places, 0);
+        let kept = self.trim_end_len(places, 0);
         clear_from(&mut self.digits, kept);
         self.places = kept;
     }
 
     /// Rounds up to `places` digits after the point, of which the number has more.
+    #[tactic(auto, using(crate::proofs::Cut::next_whole_is_expansion))]
     fn ceil_to(&mut self, places: u32)
         requires { places < length self.old.digits }
         ensures { IsExpansion (ulps_of (cut_after places self.old) + 1) (10 ^ places) self.new }
     {
         // The carry turns trailing nines into zeros, and adds one to the digit before them.
-        let kept = trim_end_len(&self.digits, places, 9);
+        let kept = self.trim_end_len(places, 9);
         clear_from(&mut self.digits, kept);
         self.places = kept;
         if kept == 0 {
@@ -307,10 +321,8 @@ pub fn glyphs_of(e: &Expansion) -> [u8; EXPANSION_PLACES]
     glyphs
 }
 
-/// The length of the array that the long division fills: whole groups, the last of which begins within 93 digits.
-const GROUPED_PLACES: usize = 100;
-
 /// Expands `whole + remainder / den` by long division, ten digits at a time.
+#[inline(always)]
 fn divide(whole: u128, remainder: u128, den: u128) -> Expansion
     requires whole { whole < whole_limit }
     requires bound { remainder < den }
@@ -320,57 +332,24 @@ fn divide(whole: u128, remainder: u128, den: u128) -> Expansion
     ensures { IsExpansion (whole * den + remainder) den result }
 {
     let mut rest = remainder;
-    let mut groups = [0u8; GROUPED_PLACES];
+    let mut digits = [0u8; EXPANSION_PLACES];
     let mut places: u32 = 0;
     while rest != 0 {
         let (group, left) = div_rem_unit(rest * 10_000_000_000, den);
-        places += GROUP_DIGITS;
-        put_ten_digits(group as u64, &mut groups, places as usize);
+        // The digits of the group that are not written yet, times 10 for each one that is.
+        let mut shifted = group as u64;
+        let mut count = 0;
+        while count < GROUP_DIGITS && (shifted != 0 || left != 0) {
+            digits[places as usize] = (shifted / 1_000_000_000) as u8;
+            shifted = shifted % 1_000_000_000 * 10;
+            places += 1;
+            count += 1;
+        }
         rest = left;
     }
-    let places = trim_end_len(&groups, places, 0);
-    let mut digits = [0u8; EXPANSION_PLACES];
-    digits.copy_from_slice(&groups[..EXPANSION_PLACES]);
     Expansion {
         whole,
         digits,
         places,
     }
-}
-
-/// Writes ten digits, leading zeros included, so that they end before the index `end`.
-#[inline(always)]
-fn put_ten_digits(n: u64, digits: &mut [u8], end: usize)
-    requires { FitBefore 10 n end digits.old }
-    ensures { PutsDigits 10 n end digits.old digits.new }
-{
-    put_five_digits((n % 100_000) as u32, digits, end);
-    put_five_digits((n / 100_000) as u32, digits, end - 5);
-}
-
-/// Writes five digits as `put_ten_digits`.
-#[inline(always)]
-fn put_five_digits(n: u32, digits: &mut [u8], end: usize)
-    requires { FitBefore 5 n end digits.old }
-    ensures { PutsDigits 5 n end digits.old digits.new }
-{
-    let mut rest = n;
-    for i in 0..5 {
-        digits[end - 1 - i] = (rest % 10) as u8;
-        rest /= 10;
-    }
-}
-
-/// Returns the length of the first `places` digits without those at their end that equal `last`.
-fn trim_end_len(digits: &[u8], places: u32, last: u8) -> u32
-    requires { places ≤ length digits.now }
-    ensures bound { result ≤ places }
-    ensures same { take places digits.now ≡ take result digits.now ++ replicate (places - result) last }
-    ensures stops { 0 < result → slice_index digits.now (result - 1) ≢ last }
-{
-    let mut kept = places;
-    while kept > 0 && digits[kept as usize - 1] == last {
-        kept -= 1;
-    }
-    kept
 }

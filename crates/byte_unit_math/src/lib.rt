@@ -9,8 +9,8 @@ pub use crate::expansion::{EXPANSION_PLACES, Expansion, Ties, glyphs_of};
 pub use crate::factors::{Factors, factors_of, two_five};
 pub use crate::lanes::{PADDED_DIGITS, put_padded_digits};
 pub use crate::least::{least_size, least_size_counted};
-pub use crate::quotient::{exact_number, exact_quotient, factored_quotient};
-pub use crate::short::{ShortExpansion, short_expansion};
+pub use crate::quotient::{exact_quotient, factored_quotient};
+pub use crate::short::{ShortExpansion, rounded_expansion, short_expansion};
 pub use crate::steps::Steps;
 pub use crate::tens::power_of_ten;
 

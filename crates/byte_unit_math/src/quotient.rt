@@ -2,11 +2,11 @@
 ghost use Rattle.std.specs.Prelude.{◌≡◌, ℕ, ◌+◌, ◌*◌, ◌-◌, ◌/◌, ◌%◌, ◌^◌, ◌<◌, ◌≤◌, min, IfSome, IfNone};
 ghost use Rattle.byte_unit_math.specs.Bounds.{scale, places_of_decimal, unit_limit, whole_limit};
 ghost use Rattle.byte_unit_math.specs.Steps.{saturating_add};
-ghost use Rattle.byte_unit_math.specs.Exact.{IsExactAt, IsExactWithin, IsLeastPlaces, IsQuotient, IsFirstExact};
+ghost use Rattle.byte_unit_math.specs.Exact.{IsExactAt, IsLeastPlaces, IsQuotient, IsFirstExact};
 ghost use Rattle.byte_unit_math.specs.Factored.{product_of};
 
 use crate::dividing::{GROUP_DIGITS, div_rem, div_rem_u24};
-use crate::tens::{POWERS_OF_FIVE, power_of_five, power_of_ten, power_of_two};
+use crate::tens::{POWERS_OF_FIVE, power_of_ten};
 use crate::{DECIMAL_PLACES, Decimal, Factors, Steps};
 
 /// Returns `size / unit` if it is exact within `places` digits after the point, and `None` otherwise. More than 28
@@ -24,6 +24,7 @@ use crate::{DECIMAL_PLACES, Decimal, Factors, Steps};
 /// assert_eq!(rt; exact_quotient(1, 8, 2, &mut steps), None);
 /// assert_eq!(rt; steps.count(), 3 + 2);
 /// ```
+#[inline]
 pub fn exact_quotient(size: u128, unit: u128, places: u32, steps: &mut Steps) -> Option<Decimal>
     requires some_unit { 1 ≤ unit }
     requires small_unit { unit ≤ unit_limit }
@@ -34,6 +35,8 @@ pub fn exact_quotient(size: u128, unit: u128, places: u32, steps: &mut Steps) ->
     ensures steps { (digits : ℕ)
         × IsFirstExact size unit (min places places_of_decimal) digits
         × (steps.new ≡ saturating_add steps.old digits) }
+    ensures steps_of_exact { IfSome result (λ N. (least : ℕ) × IsLeastPlaces N scale least
+        × (steps.new ≡ saturating_add steps.old least)) }
 {
     let most = places.min(DECIMAL_PLACES);
     let (whole, mut rest) = div_rem(size, unit);
@@ -54,40 +57,6 @@ pub fn exact_quotient(size: u128, unit: u128, places: u32, steps: &mut Steps) ->
     let number = Decimal::from_digits(whole, fraction, digits);
     steps.advance_by(number.places());
     Some(number)
-}
-
-/// Returns `numerator / (2^twos * 5^fives)`, which is exact within `places` digits after the point, by long division;
-/// more than 28 places count as 28.
-///
-/// Precondition (proved at every call): `numerator < 8 * 10^30`, `2^twos * 5^fives <= 2^93`, and the quotient is exact
-/// within these digits.
-///
-/// Adds one step for each digit after the point of the result.
-///
-/// # Examples
-/// ```rust
-/// let mut steps = Steps::new();
-/// assert_eq!(rt; exact_number(13, 3, 0, 3, &mut steps), Decimal::from_digits(1, 625, 3));
-/// assert_eq!(rt; steps.count(), 3);
-/// ```
-#[inline(never)]
-#[tactic(auto, using(crate::proofs::Expanding::powers))]
-pub fn exact_number(
-    numerator: u128,
-    twos: u32,
-    fives: u32,
-    places: u32,
-    steps: &mut Steps,
-) -> Decimal
-    requires { IsExactWithin numerator twos fives places }
-    ensures exact { result * (2 ^ twos * 5 ^ fives) ≡ numerator * scale }
-    ensures steps { (least : ℕ) × IsLeastPlaces result scale least
-        × (steps.new ≡ saturating_add steps.old least) }
-{
-    let unit = power_of_two(twos) * power_of_five(fives);
-    let number = exact_quotient(numerator, unit, places, &mut Steps::new()).unwrap();
-    steps.advance_by(number.places());
-    number
 }
 
 /// Returns `number / (2^twos * 5^fives)`, from the factors, without long division.

@@ -1,9 +1,12 @@
 //! Terminating decimal expansions with few digits after the point, by one product and one division or shift.
-ghost use Rattle.std.specs.Prelude.{◌≢◌, ◌*◌, ◌%◌, ◌^◌, ◌<◌, ◌≤◌, IfSome};
-ghost use Rattle.byte_unit_math.specs.Bounds.{bits_limit, unit_limit};
+ghost use Rattle.std.specs.Prelude.{◌≢◌, ℕ, ◌*◌, ◌%◌, ◌^◌, ◌<◌, ◌≤◌, IfSome};
+ghost use Rattle.byte_unit_math.specs.Bounds.{bits_limit, places_of_decimal, unit_limit};
+ghost use Rattle.byte_unit_math.specs.Nearest.{IsNearest};
 ghost use Rattle.byte_unit_math.specs.ShortExpansion.{IsShortExpansion};
+ghost use Rattle.byte_unit_math.specs.declared.expansion.Ties.TheVariants.{Up};
 
-use crate::dividing::div_rem;
+use crate::dividing::{div_rem, rounded_quotient};
+use crate::expansion::Ties;
 use crate::tens::{power_of_five, power_of_ten};
 use crate::{DECIMAL_PLACES, Decimal};
 
@@ -53,6 +56,38 @@ pub fn short_expansion(numerator: u128, twos: u32, fives: u32) -> Option<ShortEx
         binary_expansion(reduced, left)
     } else {
         decimal_expansion(reduced, left, fives)
+    }
+}
+
+/// Returns `numerator / divisor` rounded to the nearest decimal with at most `places` digits after the point, ties up.
+///
+/// Precondition (proved at every call): `numerator < 8 * 10^30`, `numerator * 10^places < 2^127`,
+/// `1 <= divisor <= 2^93` and `places <= 28`.
+///
+/// # Examples
+/// ```rust
+/// let eighths = rounded_expansion(13, 8, 2);
+/// assert_eq!(rt; (eighths.whole, eighths.digits, eighths.places), (1, 63, 2));
+/// assert_eq!(rt; rounded_expansion(12, 8, 2).places, 1);
+/// ```
+#[inline(always)]
+pub fn rounded_expansion(numerator: u128, divisor: u128, places: u32) -> ShortExpansion
+    requires bound { numerator < bits_limit }
+    requires positive { 1 ≤ divisor }
+    requires divisor_bound { divisor ≤ unit_limit }
+    requires places { places ≤ places_of_decimal }
+    requires product_bound { numerator * 10 ^ places < 2 ^ 127 }
+    ensures { (number : ℕ) × IsNearest numerator divisor places Up number
+        × IsShortExpansion number (10 ^ places) result }
+{
+    let power = power_of_ten(places);
+    let number = rounded_quotient(numerator * power, divisor, Ties::Up);
+    let (whole, digits) = div_rem(number, power);
+    let (whole, digits, places) = Decimal::from_digits(whole, digits, places).fields();
+    ShortExpansion {
+        whole,
+        digits,
+        places,
     }
 }
 

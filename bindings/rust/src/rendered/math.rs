@@ -10,8 +10,8 @@ pub use crate::rendered::math::expansion::{EXPANSION_PLACES, Expansion, Ties, gl
 pub use crate::rendered::math::factors::{Factors, factors_of, two_five};
 pub use crate::rendered::math::lanes::{PADDED_DIGITS, put_padded_digits};
 pub use crate::rendered::math::least::{least_size, least_size_counted};
-pub use crate::rendered::math::quotient::{exact_number, exact_quotient, factored_quotient};
-pub use crate::rendered::math::short::{ShortExpansion, short_expansion};
+pub use crate::rendered::math::quotient::{exact_quotient, factored_quotient};
+pub use crate::rendered::math::short::{ShortExpansion, rounded_expansion, short_expansion};
 pub use crate::rendered::math::steps::Steps;
 pub use crate::rendered::math::tens::power_of_ten;
 

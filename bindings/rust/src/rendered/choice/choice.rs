@@ -6,7 +6,7 @@
 use crate::rendered::base::{Kind, PREFIXES, Unit};
 use crate::rendered::choice::UnitType;
 use crate::rendered::choice::tables::{ALL, BITS, BYTES, UnitRow};
-use crate::rendered::math::{DECIMAL_PLACES, Decimal, Factors, Steps, exact_number, factored_quotient, factors_of};
+use crate::rendered::math::{DECIMAL_PLACES, Decimal, Factors, Steps, exact_quotient, factored_quotient, factors_of};
 
 /// The set of units that a choice may take. All of them have a prefix: `Bit` and `B` are in no set.
 ///
@@ -85,7 +85,7 @@ pub fn choose_unit(
             // Each place supplies one factor 2 and one factor 5, so there are as many as the size lacks of either.
             let places = lacking.max(row.fives.saturating_sub(fives));
             let number = if places > FEW_PLACES {
-                exact_number(in_bits, row.twos, row.fives, most, steps)
+                quotient_by(row, in_bits, most, steps)
             } else {
                 let factors = Factors { left, twos, fives };
                 factored_quotient(factors, row.twos, row.fives, places, steps)
@@ -94,6 +94,12 @@ pub fn choose_unit(
         }
     }
     None
+}
+
+/// Returns a size of `in_bits` bits in the unit of a row, in which it is exact within `most` places, by long division.
+#[inline(never)]
+fn quotient_by(row: &UnitRow, in_bits: u128, most: u32, steps: &mut Steps) -> Decimal {
+    exact_quotient(in_bits, row.bits, most, steps).unwrap()
 }
 
 /// Returns the size in the largest unit, not above it, in which it is exact within `precision` decimal places: the

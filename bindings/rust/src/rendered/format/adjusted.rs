@@ -6,7 +6,9 @@ use crate::rendered::base::{Kind, Unit};
 use crate::rendered::format::FormatSpec;
 use crate::rendered::format::layout::{layout_parts, write_layout};
 use crate::rendered::format::parts::{Fraction, TextParts};
-use crate::rendered::math::{Expansion, Ties, div_rem, power_of_ten, rounded_quotient, short_expansion};
+use crate::rendered::math::{
+    Expansion, ShortExpansion, Ties, div_rem, power_of_ten, rounded_expansion, rounded_quotient, short_expansion,
+};
 use crate::support::Place;
 use core::fmt;
 use core::fmt::Display;
@@ -18,6 +20,9 @@ const ALTERNATE_PLACES: u16 = 16;
 /// Up to this many digits after the point, a number is rounded by one division: any size in bits times 10^7 fits 127
 /// bits.
 const ONE_DIVISION_PLACES: u32 = 7;
+
+/// Up to this many, a size of fewer than 2^64 bits is: times 10^18, such a size fits 127 bits too.
+const ONE_DIVISION_PLACES_U64: u32 = 18;
 
 /// How the number of a size in a unit is rounded.
 #[derive(Clone, Copy)]
@@ -94,6 +99,9 @@ fn write_full(
     spec: FormatSpec,
     out: &mut [impl Place],
 ) -> usize {
+    if let Some(parts) = alternate_parts(size, kind, unit, rounding, spec) {
+        return parts.write(out);
+    }
     let mut number = number_in_unit(size, kind, unit);
     let places = round(&mut number, rounding);
     write_layout(&number, places, unit, spec, out)
@@ -117,7 +125,7 @@ fn rounding_of(unit: Unit, spec: FormatSpec) -> Rounding {
 }
 
 /// Returns the parts of a size in a unit with the unit, if one product and one division give the number: all digits if
-/// they are at most 38, or at most seven to which ties to even round.
+/// they are at most 38, or the nearest decimal, ties to even.
 #[inline(always)]
 fn short_parts(size: u128, kind: Kind, unit: Unit, rounding: Rounding, spec: FormatSpec) -> Option<TextParts<'static>> {
     let in_bits = size * kind.bits();
@@ -128,14 +136,54 @@ fn short_parts(size: u128, kind: Kind, unit: Unit, rounding: Rounding, spec: For
             let fraction = Fraction::Last(number.digits, number.places);
             Some(layout_parts(number.whole, fraction, unit, spec))
         }
-        Rounding::To(places) if places <= ONE_DIVISION_PLACES => {
+        Rounding::To(places) if takes_one_division(in_bits, places) => {
             let power = power_of_ten(places);
-            let number = rounded_quotient(in_bits * power, unit.as_bits_u128());
+            let number = rounded_quotient(in_bits * power, unit.as_bits_u128(), Ties::Even);
             let (whole, digits) = div_rem(number, power);
             Some(layout_parts(whole, Fraction::Last(digits, places), unit, spec))
         }
         _ => None,
     }
+}
+
+/// Returns the parts of a size in a unit with the unit, if the number is rounded as in the alternate form, and one
+/// product and one division give it.
+#[inline(always)]
+fn alternate_parts(
+    size: u128,
+    kind: Kind,
+    unit: Unit,
+    rounding: Rounding,
+    spec: FormatSpec,
+) -> Option<TextParts<'static>> {
+    let Rounding::AtMost(places) = rounding else {
+        return None;
+    };
+    let number = at_most(size * kind.bits(), unit, places)?;
+    let fraction = Fraction::Last(number.digits, number.places);
+    Some(layout_parts(number.whole, fraction, unit, spec))
+}
+
+/// Returns a number of bits in the unit, rounded to at most `places` digits after the point, ties up: all its digits if
+/// they are no more, or else the nearest decimal if one division gives it.
+#[inline(always)]
+fn at_most(in_bits: u128, unit: Unit, places: u32) -> Option<ShortExpansion> {
+    let (twos, fives) = unit.powers();
+    if let Some(exact) = short_expansion(in_bits, twos, fives) {
+        if exact.places <= places {
+            return Some(exact);
+        }
+    }
+    if takes_one_division(in_bits, places) {
+        return Some(rounded_expansion(in_bits, unit.as_bits_u128(), places));
+    }
+    None
+}
+
+/// Returns whether one division rounds a number of bits in a unit: if the bits times the power of ten fit 127 bits.
+#[inline(always)]
+fn takes_one_division(in_bits: u128, places: u32) -> bool {
+    places <= ONE_DIVISION_PLACES || (in_bits < 1 << 64 && places <= ONE_DIVISION_PLACES_U64)
 }
 
 /// Rounds a number, and returns how many of its digits after the point are shown.

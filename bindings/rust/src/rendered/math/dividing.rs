@@ -2,6 +2,8 @@
 
 //! Division of 128 bits, with remainder or rounded, by constants, and by the bits of a unit.
 
+use crate::rendered::math::expansion::Ties;
+
 /// The number of digits that a step of a long division takes: the remainder, below a denominator of at most 10^28,
 /// times 10^10 fits 128 bits.
 pub(crate) const GROUP_DIGITS: u32 = 10;
@@ -35,22 +37,25 @@ pub fn div_rem(dividend: u128, divisor: u128) -> (u128, u128) {
     }
 }
 
-/// Returns `numerator / divisor` rounded to the nearest whole number, a tie to the even one.
+/// Returns `numerator / divisor` rounded to the nearest whole number, ties as `ties` says.
 ///
 /// Precondition: `numerator < 2^127` and `1 <= divisor <= 2^93`.
 ///
 /// # Examples
 /// ```
 /// # use byte_unit::rendered::{base::{size::parse_line, *}, bit::*, byte::*, choice::*, format::*, math::*};
-/// assert_eq!((rounded_quotient(5, 2), rounded_quotient(7, 2)), (2, 4));
-/// assert_eq!(rounded_quotient(8, 3), 3);
+/// assert_eq!((rounded_quotient(5, 2, Ties::Even), rounded_quotient(5, 2, Ties::Up)), (2, 3));
+/// assert_eq!(rounded_quotient(8, 3, Ties::Even), 3);
 /// ```
 #[inline]
-pub fn rounded_quotient(numerator: u128, divisor: u128) -> u128 {
+pub fn rounded_quotient(numerator: u128, divisor: u128, ties: Ties) -> u128 {
     let (quotient, rest) = div_rem(numerator, divisor);
-    // Rounds up if more than half of the divisor is left, or just half and the quotient is odd.
-    let odd = quotient % 2;
-    if 2 * rest + odd > divisor { quotient + 1 } else { quotient }
+    // Rounds up if more than half of the divisor is left, or just half and the tie goes up.
+    match ties {
+        Ties::Even if 2 * rest + quotient % 2 > divisor => quotient + 1,
+        Ties::Up if 2 * rest >= divisor => quotient + 1,
+        Ties::Even | Ties::Up => quotient,
+    }
 }
 
 /// Returns the quotient and the remainder by a constant, without division: the leading 64 bits of the dividend times

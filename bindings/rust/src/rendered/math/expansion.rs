@@ -2,10 +2,10 @@
 
 //! Terminating decimal expansions: a whole part and at most 93 digits after the point; their rounding and their text.
 
-use crate::rendered::math::decimal::{Decimal, ONE};
+use crate::rendered::math::decimal::Decimal;
 use crate::rendered::math::decimal_digits::fmt_u128;
 use crate::rendered::math::dividing::{GROUP_DIGITS, div_rem, div_rem_unit};
-use crate::rendered::math::tens::{power_of_five, power_of_two};
+use crate::rendered::math::tens::{power_of_five, power_of_ten, power_of_two};
 use core::{fmt, str};
 
 /// The most digits after the point of an [`Expansion`]: the largest unit has 2^93 bits, and a fraction over 2^93 has
@@ -62,7 +62,7 @@ impl Expansion {
     /// assert_eq!((e.whole(), e.places(), e.digit(3)), (50, 3, 4));
     /// ```
     pub fn from_decimal(d: Decimal) -> Expansion {
-        divide(d.whole(), d.fraction(), ONE)
+        divide(d.whole(), d.digits(), power_of_ten(d.places()))
     }
 
     /// Returns the part before the point.
@@ -161,9 +161,18 @@ impl Expansion {
         if places == 0 { self.whole % 2 == 1 } else { self.digit(places) % 2 == 1 }
     }
 
+    /// Returns the length of the first `places` digits without those at their end that equal `last`.
+    fn trim_end_len(&self, places: u32, last: u8) -> u32 {
+        let mut kept = places;
+        while kept > 0 && self.digit(kept) == last {
+            kept -= 1;
+        }
+        kept
+    }
+
     /// Rounds down to `places` digits after the point.
     fn floor_to(&mut self, places: u32) {
-        let kept = trim_end_len(&self.digits, places, 0);
+        let kept = self.trim_end_len(places, 0);
         clear_from(&mut self.digits, kept);
         self.places = kept;
     }
@@ -171,7 +180,7 @@ impl Expansion {
     /// Rounds up to `places` digits after the point, of which the number has more.
     fn ceil_to(&mut self, places: u32) {
         // The carry turns trailing nines into zeros, and adds one to the digit before them.
-        let kept = trim_end_len(&self.digits, places, 9);
+        let kept = self.trim_end_len(places, 9);
         clear_from(&mut self.digits, kept);
         self.places = kept;
         if kept == 0 {
@@ -220,48 +229,24 @@ pub fn glyphs_of(e: &Expansion) -> [u8; EXPANSION_PLACES] {
     glyphs
 }
 
-/// The length of the array that the long division fills: whole groups, the last of which begins within 93 digits.
-const GROUPED_PLACES: usize = 100;
-
 /// Expands `whole + remainder / den` by long division, ten digits at a time.
+#[inline(always)]
 fn divide(whole: u128, remainder: u128, den: u128) -> Expansion {
     let mut rest = remainder;
-    let mut groups = [0u8; GROUPED_PLACES];
+    let mut digits = [0u8; EXPANSION_PLACES];
     let mut places: u32 = 0;
     while rest != 0 {
         let (group, left) = div_rem_unit(rest * 10_000_000_000, den);
-        places += GROUP_DIGITS;
-        put_ten_digits(group as u64, &mut groups, places as usize);
+        // The digits of the group that are not written yet, times 10 for each one that is.
+        let mut shifted = group as u64;
+        let mut count = 0;
+        while count < GROUP_DIGITS && (shifted != 0 || left != 0) {
+            digits[places as usize] = (shifted / 1_000_000_000) as u8;
+            shifted = shifted % 1_000_000_000 * 10;
+            places += 1;
+            count += 1;
+        }
         rest = left;
     }
-    let places = trim_end_len(&groups, places, 0);
-    let mut digits = [0u8; EXPANSION_PLACES];
-    digits.copy_from_slice(&groups[..EXPANSION_PLACES]);
     Expansion { whole, digits, places }
-}
-
-/// Writes ten digits, leading zeros included, so that they end before the index `end`.
-#[inline(always)]
-fn put_ten_digits(n: u64, digits: &mut [u8], end: usize) {
-    put_five_digits((n % 100_000) as u32, digits, end);
-    put_five_digits((n / 100_000) as u32, digits, end - 5);
-}
-
-/// Writes five digits as `put_ten_digits`.
-#[inline(always)]
-fn put_five_digits(n: u32, digits: &mut [u8], end: usize) {
-    let mut rest = n;
-    for i in 0..5 {
-        digits[end - 1 - i] = (rest % 10) as u8;
-        rest /= 10;
-    }
-}
-
-/// Returns the length of the first `places` digits without those at their end that equal `last`.
-fn trim_end_len(digits: &[u8], places: u32, last: u8) -> u32 {
-    let mut kept = places;
-    while kept > 0 && digits[kept as usize - 1] == last {
-        kept -= 1;
-    }
-    kept
 }

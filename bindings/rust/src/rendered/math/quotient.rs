@@ -3,7 +3,7 @@
 //! Exact quotients by long division and by factors.
 
 use crate::rendered::math::dividing::{GROUP_DIGITS, div_rem, div_rem_u24};
-use crate::rendered::math::tens::{POWERS_OF_FIVE, power_of_five, power_of_ten, power_of_two};
+use crate::rendered::math::tens::{POWERS_OF_FIVE, power_of_ten};
 use crate::rendered::math::{DECIMAL_PLACES, Decimal, Factors, Steps};
 
 /// Returns `size / unit` if it is exact within `places` digits after the point, and `None` otherwise. More than 28
@@ -24,6 +24,7 @@ use crate::rendered::math::{DECIMAL_PLACES, Decimal, Factors, Steps};
 /// assert_eq!(exact_quotient(1, 8, 2, &mut steps), None);
 /// assert_eq!(steps.count(), 3 + 2);
 /// ```
+#[inline]
 pub fn exact_quotient(size: u128, unit: u128, places: u32, steps: &mut Steps) -> Option<Decimal> {
     let most = places.min(DECIMAL_PLACES);
     let (whole, mut rest) = div_rem(size, unit);
@@ -44,31 +45,6 @@ pub fn exact_quotient(size: u128, unit: u128, places: u32, steps: &mut Steps) ->
     let number = Decimal::from_digits(whole, fraction, digits);
     steps.advance_by(number.places());
     Some(number)
-}
-
-/// Returns `numerator / (2^twos * 5^fives)`, which is exact within `places` digits after the point, by long division;
-/// more than 28 places count as 28.
-///
-/// Precondition: `numerator < 8 * 10^30`, `2^twos * 5^fives <= 2^93`, and the quotient is exact
-/// within these digits.
-///
-/// Adds one step for each digit after the point of the result.
-///
-/// # Examples
-/// ```
-/// # use byte_unit::rendered::{base::{size::parse_line, *}, bit::*, byte::*, choice::*, format::*, math::*};
-/// use byte_unit::Decimal;
-///
-/// let mut steps = Steps::new();
-/// assert_eq!(exact_number(13, 3, 0, 3, &mut steps), Decimal::from_u128_with_scale(1625, 3).unwrap());
-/// assert_eq!(steps.count(), 3);
-/// ```
-#[inline(never)]
-pub fn exact_number(numerator: u128, twos: u32, fives: u32, places: u32, steps: &mut Steps) -> Decimal {
-    let unit = power_of_two(twos) * power_of_five(fives);
-    let number = exact_quotient(numerator, unit, places, &mut Steps::new()).unwrap();
-    steps.advance_by(number.places());
-    number
 }
 
 /// Returns `number / (2^twos * 5^fives)`, from the factors, without long division.

@@ -2,7 +2,8 @@
 
 //! Terminating decimal expansions with few digits after the point, by one product and one division or shift.
 
-use crate::rendered::math::dividing::div_rem;
+use crate::rendered::math::dividing::{div_rem, rounded_quotient};
+use crate::rendered::math::expansion::Ties;
 use crate::rendered::math::tens::{power_of_five, power_of_ten};
 use crate::rendered::math::{DECIMAL_PLACES, Decimal};
 
@@ -45,6 +46,27 @@ pub fn short_expansion(numerator: u128, twos: u32, fives: u32) -> Option<ShortEx
     let left = twos - fives - shared;
     let reduced = numerator >> shared;
     if fives == 0 { binary_expansion(reduced, left) } else { decimal_expansion(reduced, left, fives) }
+}
+
+/// Returns `numerator / divisor` rounded to the nearest decimal with at most `places` digits after the point, ties up.
+///
+/// Precondition: `numerator < 8 * 10^30`, `numerator * 10^places < 2^127`,
+/// `1 <= divisor <= 2^93` and `places <= 28`.
+///
+/// # Examples
+/// ```
+/// # use byte_unit::rendered::{base::{size::parse_line, *}, bit::*, byte::*, choice::*, format::*, math::*};
+/// let eighths = rounded_expansion(13, 8, 2);
+/// assert_eq!((eighths.whole, eighths.digits, eighths.places), (1, 63, 2));
+/// assert_eq!(rounded_expansion(12, 8, 2).places, 1);
+/// ```
+#[inline(always)]
+pub fn rounded_expansion(numerator: u128, divisor: u128, places: u32) -> ShortExpansion {
+    let power = power_of_ten(places);
+    let number = rounded_quotient(numerator * power, divisor, Ties::Up);
+    let (whole, digits) = div_rem(number, power);
+    let (whole, digits, places) = Decimal::from_digits(whole, digits, places).fields();
+    ShortExpansion { whole, digits, places }
 }
 
 /// Returns the expansion of `numerator / 2^places`, which is in lowest terms, or `None` if `places` is more than 38.

@@ -1,10 +1,10 @@
 -- The first row that passes the test is the largest unit in which the size is exact; the number times the unit is the
 -- size; if no row passes, no unit of the set is such. The steps are those of `factors_of` and one for each place.
 use Rattle.std.proofs.lemmas.Grind.{common_steps}
-use Rattle.std.proofs.Common.{rules, ◌≡◌, ◌*◌, ◌^◌, ℕ, min, arith, refl, ap, subst, sym, ◌∙◌}
+use Rattle.std.proofs.Common.{rules, ◌≡◌, ◌*◌, ◌^◌, ℕ, arith, refl, ap, subst, sym, ◌∙◌}
 use Rattle.std.proofs.lemmas.Bool.{both_ways}
-use Rattle.byte_unit_math.specs.Bounds.{scale, places_of_decimal, whole_limit}
-use Rattle.byte_unit_math.specs.Exact.{IsExactAt, IsLeastPlaces}
+use Rattle.byte_unit_math.specs.Bounds.{scale, whole_limit}
+use Rattle.byte_unit_math.specs.Exact.{IsLeastPlaces}
 use Rattle.byte_unit_math.specs.Steps.{saturating_add}
 use Rattle.byte_unit_choice.proofs.Choosing.{some_bits}
 use Rattle.byte_unit_choice.proofs.FewSteps.{few_of_choice, few_of_none}
@@ -49,18 +49,18 @@ loop-row-preserved c =
     }
 
 -- the size is exact in the unit of the row within the places, which the test of the row has found
-pub exact_number-number-requires : goal.exact_number-number-requires
-exact_number-number-requires c =
+pub quotient_by-number-requires : goal.quotient_by-number-requires
+quotient_by-number-requires c =
     let in_bits = c.args.size * c.args.own_bits in
     let is_row = row_at_is_row no_row c.multiples_within-row-items.ensures c.loop-row-test.true in
     let multiple = row_multiple is_row in
     let has = row_powers in_bits _ _ is_row c.if-row-in_bits.true in
     let powers = in_bits_powers c.args.size c.args.own_bits _ _ c.requires.own_bits c.factors_of-left.ensures.powers in
     record {
-      small = search rules;
-      den = omega (arith, multiple.small, multiple.powers);
-      exact = subst (λ unit. IsExactAt in_bits unit (min c.min-most.result places_of_decimal)) multiple.powers
-          (exact_by_row _ (omega (arith, c.min-most.ensures)) is_row.bits_are powers has);
+      some_unit = omega (arith, multiple.large);
+      small_unit = omega (arith, multiple.small);
+      small_size = search rules;
+      exact = exact_by_row _ (omega (arith, c.min-most.ensures)) is_row.bits_are powers has;
     }
 
 -- with few places, the quotient times 10^places is below the limit of a whole part
@@ -85,7 +85,7 @@ returns-then-row-in_bits-clause-exact c =
     elim c.if-places-gt-FEW_PLACES.branch [
       | then-places-gt-FEW_PLACES w ↦
           ap (λ n. n * _) w.number-is
-          ∙ (ap (λ n. w.exact_number-number.result * n) multiple.powers ∙ w.exact_number-number.ensures.exact)
+          ∙ w.quotient_by-number.ensures.exact
       | else-places-gt-FEW_PLACES w ↦
           ap (λ n. n * _) w.number-is
           ∙ (ap (λ n. w.factored_quotient-number.result * n) multiple.powers
@@ -120,7 +120,7 @@ returns-then-row-in_bits-clause-steps c =
     × (c.if-places-gt-FEW_PLACES.steps ≡ saturating_add mid places) =
     elim c.if-places-gt-FEW_PLACES.branch [
       | then-places-gt-FEW_PLACES w ↦
-          let places = w.exact_number-number.ensures.steps in
+          let places = w.quotient_by-number.ensures.steps in
           let same = subst (λ n. IsLeastPlaces n scale places.0) (sym w.number-is) places.1 in
           (places.0, same, omega (arith, w.steps-is, places.2, unmoved))
       | else-places-gt-FEW_PLACES w ↦
