@@ -253,8 +253,9 @@ def python_package(tmp_path_factory):
 @pytest.fixture(scope="session")
 def python(library, python_package, tmp_path_factory):
     """The `program` of an environment in which pip has built the package offline, and what pip `said`."""
-    folder = tmp_path_factory.mktemp("environment")
-    output(DEBIAN_PYTHON, "-m", "venv", "--system-site-packages", folder, env=environment())
+    folder = Path(KEPT or tmp_path_factory.mktemp("python"), "environment")
+    if not folder.exists():
+        output(DEBIAN_PYTHON, "-m", "venv", "--system-site-packages", folder, env=environment())
     words = [folder / "bin/python", "-m", "pip", "install", "-v", "--no-index", python_package]
     return types.SimpleNamespace(program=words[0], said=output(*words, env=environment(BYTE_UNIT_LIBRARY_DIR=library)))
 
