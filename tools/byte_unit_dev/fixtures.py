@@ -119,10 +119,11 @@ def shared(tmp_path_factory, name):
 
 @pytest.fixture(scope="session")
 def programs_by_cargo(tmp_path_factory):
-    """The folder where `cargo install` has put the programs. The processes of one run share it."""
+    """The folder where `cargo install` has put the programs. The processes of one run share it. With a mutant a program
+    is not optimized as a whole, which would take most of the time."""
     need(*CARGO_PROGRAMS)
     with shared(tmp_path_factory, "programs") as folder:
-        return programs(folder)
+        return programs(folder, *["--config", "profile.release.lto='off'"] * bool(KEPT))
 
 
 @pytest.fixture(scope="module")
