@@ -13,6 +13,8 @@ from byte_unit_dev.libraries import exported
 
 INSTALL = [path("tools/dev"), "install"]
 HEADER, PAGE = "include/byte_unit.h", "share/man/man3/byte_unit.3"
+# Before a script that mounts what nothing else sees.
+MOUNTED = ["unshare", "--mount", "--map-root-user", "sh", "-c"]
 WARNINGS = ["-Wall", "-Wextra", "-Wpedantic", "-Werror"]
 C = ["c99", "c11", "c17", "c2x"]
 STANDARDS = {"gcc": C, "clang": C, "g++": ["c++17"], "clang++": ["c++17"]}
@@ -135,12 +137,12 @@ def test_failure(library, tmp_path, there, words, reason):
 def test_full_disk(library, tmp_path):
     """On a disk of 90 KB in a name space of its own; if nothing can be mounted, with a limit of 90 KB, 180 blocks of 512
     bytes, on each file."""
-    mount, inner = f"mount -t tmpfs -o size=90k none {tmp_path}", ["unshare", "--mount", "--map-root-user", "sh", "-c"]
+    mount = f"mount -t tmpfs -o size=90k none {tmp_path}"
     words = [*INSTALL, "--from", library, tmp_path / "full"]
-    if not shutil.which("unshare") or call(*inner, mount).returncode:
+    if not shutil.which("unshare") or call(*MOUNTED, mount).returncode:
         fails(tmp_path, ": File too large", "sh", "-c", 'ulimit -f 180; exec "$@"', "", *words)
     else:
-        got = call(*inner, f"{mount}; \"$@\"; echo $?; find {tmp_path} -mindepth 1", "", *words)
+        got = call(*MOUNTED, f"{mount}; \"$@\"; echo $?; find {tmp_path} -mindepth 1", "", *words)
         assert re.search(r"\ntools/dev install: nothing is installed: .*: No space left on device\n1\n\Z", got.stdout)
 
 
@@ -198,23 +200,26 @@ def test_style_of_cargo_package(cargo, tmp_path, program, words):
     cargo.output(package, *words)
 
 
-def fill(folder, c, **variables):
+def fill(folder, c, *before, **variables):
     """Calls library.sh in a copy of bindings/c, where no archive is made, and cargo makes none."""
     words = {"CARGO": "/nowhere", "PKG_CONFIG_LIBDIR": "/nowhere", **variables}
-    return call("sh", f"{c}/library.sh", folder, env=environment(**words))
+    return call(*before, "sh", f"{c}/library.sh", folder, env=environment(**words))
 
 
-@pytest.mark.parametrize("way", ["a folder", "a prefix", "pkg-config", "rt lib"])
+@pytest.mark.parametrize("way", ["a folder", "a prefix", "pkg-config", "/usr/local", "rt lib"])
 def test_library_for_bindings(library, tmp_path, way):
-    """library.sh copies what was made, from where each of these has it."""
-    c, prefix = copied("c", tmp_path), tmp_path / "prefix"
+    """library.sh copies what was made, from where each of these has it; /usr/local has it in a name space of its own."""
+    c, prefix, before = copied("c", tmp_path), tmp_path / "prefix", []
     output(*INSTALL, "--from", library, "--without-sqlite", prefix)
     variables = {"a folder": {"BYTE_UNIT_LIBRARY_DIR": library}, "a prefix": {"BYTE_UNIT_LIBRARY_DIR": prefix},
                  "pkg-config": {"PKG_CONFIG_PATH": prefix / "lib/pkgconfig"}}.get(way, {})  # fmt: skip
     if way == "rt lib":
         (tmp_path / "crates/byte_unit_c/out").mkdir(parents=True)
         shutil.copy(f"{library}/libbyte_unit.a", tmp_path / "crates/byte_unit_c/out/libbyte_unit_c.a")
-    got = fill(tmp_path / "new/folder", c, **variables)
+    if way == "/usr/local":
+        need("unshare")
+        before = [*MOUNTED, f'mount --bind {prefix} /usr/local && exec "$@"', ""]
+    got = fill(tmp_path / "new/folder", c, *before, **variables)
     assert (got.returncode, got.stdout) == (0, "")
     for name in ("libbyte_unit.a", "byte_unit.h"):
         assert (tmp_path / "new/folder" / name).read_bytes() == Path(library, name).read_bytes()

@@ -3,6 +3,7 @@
 import os
 import re
 import shutil
+from glob import glob
 
 import pytest
 from byte_unit_dev.builds import copied
@@ -12,6 +13,9 @@ from byte_unit_dev.fixtures import (
 from byte_unit_dev.needs import PYTHON_PACKAGE
 
 LINES = path("bindings/python/checks/lines.py")
+# The files of the package's own tests, of which those that take longest come last.
+LONG = ["test_columns.py", "test_package.py"]
+TESTS = sorted(glob("test_*.py", root_dir=path("bindings/python/tests")), key=lambda name: (name in LONG, name))
 
 
 @pytest.mark.parametrize("folder, words", [("/", "has no byte_unit.h and libbyte_unit.a"), ("OLD", "has no version")])
@@ -72,9 +76,10 @@ def test_its_c_has_no_warning(python):
     assert not re.search(r"\.[ch]:\d+.*warning: ", python.said), python.said
 
 
-def test_its_own_tests(python, tmp_path):
-    tests = path("bindings/python/tests")
-    said = output(python.program, "-m", "unittest", "discover", "-s", tests, cwd=tmp_path, env=environment())
+@pytest.mark.parametrize("name", TESTS)
+def test_its_own_tests(python, tmp_path, name):
+    words = ["discover", "-s", path("bindings/python/tests"), "-p", name]
+    said = output(python.program, "-m", "unittest", *words, cwd=tmp_path, env=environment())
     modules = all(map(is_there, ("import numpy", "import pandas", "import _testcapi")))
     assert re.search(r"\nOK\n$" if modules else r"\nOK( \(skipped=\d+\))?\n$", said), said
 

@@ -193,7 +193,7 @@ REPEATED = [
     ("-ii 1kb", b"", b"1 KB\n"), ("-p1 --precision=2 --to=K 1234", b"", b"1.23 KB\n"),
     ("--header=2 --header", b"x\n1K\n", b"x\n1 KB\n"), ("--max=1 --max=2K --total --total 1K", b"", b"1 KB\n1 KB\n"),
     ("--from=iec --from=si --to=plain 1K", b"", b"1000\n"),
-    ("--inv=ignore --tot --fr iec --hum x 1K", b"", b"x\n1.0 KiB\n1.0 KiB\n"),
+    ("--inv=ignore --tot --fr iec --hum --s=/s x 1K", b"", b"x\n1.0 KiB/s\n1.0 KiB/s\n"),
 ]
 
 SUFFIXES = [
@@ -326,6 +326,8 @@ WRONG_WORDS = [
     ("-p -1", unknown("-1")),
     ("--bits -i", misused("the argument '--bits' cannot be used with '--ignore-case'")),
     ("--nothing", unknown("--nothing")),
+    ("--unit", unknown("--unit")),
+    ("--he", misused("unexpected argument '--he' found", "  tip: a similar argument exists: '--help'")),
     (["--x\nbyte-unit: y"], unknown("--x\\u{a}byte-unit: y")),
     (["--x\u202e"], unknown("--x\\u{202e}")),
     ("--header=18446744073709551616",

@@ -62,10 +62,10 @@ def original(given, work):
     return crate
 
 
-def programs(folder):
-    """Builds the programs by `cargo install` below a folder. Returns the folder that has them."""
+def programs(folder, *more):
+    """Builds the programs by `cargo install`, and more words, below a folder. Returns the folder that has them."""
     write(f"{folder}/config.toml", CONFIG)
-    words = ["--path", path("bindings/programs"), "--root", folder, "--target-dir", f"{folder}/target"]
+    words = ["--path", path("bindings/programs"), "--root", folder, "--target-dir", f"{folder}/target", *more]
     output("cargo", "install", *words, "--config", f"{folder}/config.toml", env=environment(CARGO_HOME=folder))
     return Path(folder, "bin")
 

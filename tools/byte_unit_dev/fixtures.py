@@ -24,6 +24,8 @@ from .needs import CARGO_PROGRAMS, DEBIAN_PYTHON, PACKAGES, PYTHON_PACKAGE, SERD
 
 # The first cargo of the path, and Debian's.
 CARGOS = list(dict.fromkeys([shutil.which("cargo") or "cargo", "/usr/bin/cargo"]))
+# A folder that keeps what is built once for the next call, if there is one.
+KEPT = os.environ.get("BYTE_UNIT_KEPT")
 # The programs that cargo makes, too, by their crates.
 BY_CARGO = {"byte_unit_cli": "byte-unit", "byte_unit_lines": "byte_unit_lines"}
 
@@ -108,8 +110,8 @@ def pytest_generate_tests(metafunc):
 def shared(tmp_path_factory, name):
     """A folder that the processes of one run share, of which one at a time fills it."""
     here = tmp_path_factory.getbasetemp()
-    folder = (here.parent if "PYTEST_XDIST_WORKER" in os.environ else here) / name
-    folder.mkdir(exist_ok=True)
+    folder = Path(KEPT or (here.parent if "PYTEST_XDIST_WORKER" in os.environ else here), name)
+    folder.mkdir(parents=True, exist_ok=True)
     with open(f"{folder}.lock", "w", encoding="utf-8") as lock:
         fcntl.flock(lock, fcntl.LOCK_EX)
         yield folder
@@ -117,10 +119,11 @@ def shared(tmp_path_factory, name):
 
 @pytest.fixture(scope="session")
 def programs_by_cargo(tmp_path_factory):
-    """The folder where `cargo install` has put the programs. The processes of one run share it."""
+    """The folder where `cargo install` has put the programs. The processes of one run share it. With a mutant a program
+    is not optimized as a whole, which would take most of the time."""
     need(*CARGO_PROGRAMS)
     with shared(tmp_path_factory, "programs") as folder:
-        return programs(folder)
+        return programs(folder, *["--config", "profile.release.lto='off'"] * bool(KEPT))
 
 
 @pytest.fixture(scope="module")
@@ -251,8 +254,9 @@ def python_package(tmp_path_factory):
 @pytest.fixture(scope="session")
 def python(library, python_package, tmp_path_factory):
     """The `program` of an environment in which pip has built the package offline, and what pip `said`."""
-    folder = tmp_path_factory.mktemp("environment")
-    output(DEBIAN_PYTHON, "-m", "venv", "--system-site-packages", folder, env=environment())
+    folder = Path(KEPT or tmp_path_factory.mktemp("python"), "environment")
+    if not folder.exists():
+        output(DEBIAN_PYTHON, "-m", "venv", "--system-site-packages", folder, env=environment())
     words = [folder / "bin/python", "-m", "pip", "install", "-v", "--no-index", python_package]
     return types.SimpleNamespace(program=words[0], said=output(*words, env=environment(BYTE_UNIT_LIBRARY_DIR=library)))
 
@@ -318,7 +322,7 @@ class Cargo:
 @pytest.fixture(scope="session")
 def cargos(tmp_path_factory):
     """Returns the Cargo of a path, made once. One that is older than the Rust package states is skipped."""
-    work = tmp_path_factory.mktemp("cargo").resolve()
+    work = Path(KEPT or tmp_path_factory.mktemp("cargo")).resolve()
     oldest = re.search(r'^rust-version = "(.*)"', read("bindings/rust/Cargo.toml"), re.M)[1]
 
     @functools.lru_cache(maxsize=None)
@@ -330,7 +334,8 @@ def cargos(tmp_path_factory):
         return Cargo(cargo, work / str(CARGOS.index(cargo)))
 
     yield made
-    shutil.rmtree(work, ignore_errors=True)  # hundreds of megabytes
+    if not KEPT:
+        shutil.rmtree(work, ignore_errors=True)  # hundreds of megabytes
 
 
 @pytest.fixture(scope="session")

@@ -80,7 +80,8 @@ def listed():
 
 def copied(folder):
     """Copies the repository's files, as a repository of git, and returns the environment of the tests there: cargo
-    builds the library, since no program `rt` is on the path."""
+    builds the library, since no program `rt` is on the path. It keeps what it has built from one mutant to the next, of
+    sources in the same places; a mutant and the text in its place again are both newer than what was built."""
     tree, programs = Path(folder, "tree"), Path(folder, "bin")
     for name in files():
         (tree / name).parent.mkdir(parents=True, exist_ok=True)
@@ -94,7 +95,8 @@ def copied(folder):
             if not os.path.lexists(programs / program):
                 (programs / program).symlink_to(f"{place}/{program}")
         folders[folders.index(place)] = str(programs)
-    return tree, environment(PATH=os.pathsep.join(folders))
+    kept = {"BYTE_UNIT_KEPT": f"{folder}/kept", "PYTEST_ADDOPTS": f"--basetemp={folder}/tests"}
+    return tree, environment(PATH=os.pathsep.join(folders), **kept)
 
 
 def ended(tree, here, test):

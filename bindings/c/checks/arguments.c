@@ -44,6 +44,8 @@ static void specs(void)
     greatest.low--;
     memset(&zero, 0, sizeof zero);
     check("a zeroed spec", byte_unit_text(number(1536), 0, zero, out, sizeof out) == 4 && memcmp(out, "1536", 4) == 0);
+    check("BYTE_UNIT_SIZE_LIMIT_INIT", byte_unit_text(greatest, 0, zero, out, sizeof out) == 30
+                                           && memcmp(out, "999999999999999999999999999999", 30) == 0);
     spec = zero, spec.has_precision = 1;
     check("precision 0", byte_unit_adjusted_text(number(1536), 0, BYTE_UNIT_KIB, spec, out, sizeof out) == 5
                              && memcmp(out, "2 KiB", 5) == 0);
@@ -139,7 +141,8 @@ static void nulls(void)
     check("each error without a place for it", byte_unit_parse("x", 1, 0, &size, NULL) == BYTE_UNIT_NOT_NUMBER
               && byte_unit_parse("1x", 2, 0, &size, NULL) == BYTE_UNIT_UNIT
               && byte_unit_parse("1000 RB", 7, 0, &size, NULL) == BYTE_UNIT_EXCEEDED_BOUNDS
-              && byte_unit_parse("\xff", 1, 0, &size, NULL) == BYTE_UNIT_NOT_UTF8);
+              && byte_unit_parse("\xff", 1, 0, &size, NULL) == BYTE_UNIT_NOT_UTF8
+              && byte_unit_parse_unit("x", 1, 0, &unit, NULL) == BYTE_UNIT_UNIT);
     check("parse_unit", byte_unit_parse_unit(NULL, 0, 0, &unit, NULL) == BYTE_UNIT_OK && unit == BYTE_UNIT_B);
     check("explain", byte_unit_explain(NULL, 0, 0, NULL, 0) == 46 && byte_unit_explain("1", 1, 0, NULL, 0) == 0
                          && byte_unit_explain("1", 1, BYTE_UNIT_EITHER_KIND, NULL, 0) == 17);
