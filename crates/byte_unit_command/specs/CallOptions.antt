@@ -136,6 +136,8 @@ IsFirstWrong values fields wrong =
     (IsPadding (given_text values.padding))
     (λ _. OrLater (IsWrongOf (codes "--invalid") values.invalid (MeansNothing IsMode Mode) wrong)
     (IsMode (given_text values.invalid))
-    (λ _. OrLater (IsWrongOf (codes "--max") values.max (IsNoLimit (parse_spec values.kind values.ignore_case binary)) wrong)
+    (λ _. OrLater
+    (IsWrongOf (codes "--max") values.max (IsNoLimit (parse_spec values.kind values.ignore_case binary)) wrong)
     (IsLimit (parse_spec values.kind values.ignore_case binary) (given_text values.max))
-    (λ _. IsWrongOf (codes "--min") values.min (IsNoLimit (parse_spec values.kind values.ignore_case binary)) wrong))))))))
+    (λ _.
+    IsWrongOf (codes "--min") values.min (IsNoLimit (parse_spec values.kind values.ignore_case binary)) wrong))))))))
