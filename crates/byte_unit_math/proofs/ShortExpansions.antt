@@ -17,7 +17,7 @@ use Rattle.byte_unit_math.proofs.Digits.{length_last_digits, last_digits_below_t
 use Rattle.byte_unit_math.proofs.Expanding.{IsLeastPlaces-last_digit, product_positive}
 use Rattle.byte_unit_math.proofs.Texts.{SameFraction, expansion_of_same_fraction}
 use Rattle.byte_unit_math.proofs.Powers.{odd_times_fives}
-use Rattle.byte_unit_math.proofs.Scales.{pow10_split, pow10_times_rest, power_of_sum}
+use Rattle.byte_unit_math.proofs.Scales.{pow10_split, power_of_sum}
 use Rattle.byte_unit_math.proofs.TwosFives.{FivesOff-trailing_zeros, trailing_zeros_divide}
 
 -- Masked by its last p bits, a number is its remainder by 2^p.
@@ -67,17 +67,6 @@ fields_expansion {number} {whole} {digits} {places} fields =
       exact = rw (length_last_digits places digits, value) (omega (arith, times, product));
       least = rw (length_last_digits places digits) fields.least.least;
     }
-
--- The number times 5^twos, split `tens + twos` digits from the right, is the quotient by 2^twos * 10^tens, scaled by
--- 10^28.
-pub decimal_is_exact : (n twos tens : ℕ) → tens + twos ≤ places_of_decimal
-    → n * 5 ^ twos * 10 ^ (places_of_decimal - (tens + twos)) * (2 ^ twos * 10 ^ tens) ≡ n * scale
-decimal_is_exact n twos tens few =
-    let behind = 10 ^ (places_of_decimal - (tens + twos)) in
-    let twice = ap (λ power. n * (power * 10 ^ tens * behind)) (mul-pow 2 5 twos) in
-    let power = ap (λ power. n * (power * behind)) (power_of_sum 10 (tens + twos) tens twos (omega arith)) in
-    let all = ap (λ s. n * s) (pow10_times_rest (tens + twos) few) in
-    omega (arith, twice, power, all)
 
 -- A number is a multiple of 2^k if k is at most the number of its trailing zero bits.
 pub shared_twos : (number k : ℕ) → number < 2 ^ 128 → k ≤ trailing_zeros w128 number

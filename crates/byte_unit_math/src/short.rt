@@ -1,6 +1,6 @@
 //! Terminating decimal expansions with few digits after the point, by one product and one division or shift.
 ghost use Rattle.std.specs.Prelude.{◌≢◌, ℕ, ◌*◌, ◌%◌, ◌^◌, ◌<◌, ◌≤◌, IfSome};
-ghost use Rattle.byte_unit_math.specs.Bounds.{bits_limit, places_of_decimal, unit_limit};
+ghost use Rattle.byte_unit_math.specs.Bounds.{bits_limit, places_of_decimal, unit_limit, whole_limit};
 ghost use Rattle.byte_unit_math.specs.Nearest.{IsNearest};
 ghost use Rattle.byte_unit_math.specs.ShortExpansion.{IsShortExpansion};
 ghost use Rattle.byte_unit_math.specs.declared.expansion.Ties.TheVariants.{Up};
@@ -80,15 +80,8 @@ pub fn rounded_expansion(numerator: u128, divisor: u128, places: u32) -> ShortEx
     ensures { (number : ℕ) × IsNearest numerator divisor places Up number
         × IsShortExpansion number (10 ^ places) result }
 {
-    let power = power_of_ten(places);
-    let number = rounded_quotient(numerator * power, divisor, Ties::Up);
-    let (whole, digits) = div_rem(number, power);
-    let (whole, digits, places) = Decimal::from_digits(whole, digits, places).fields();
-    ShortExpansion {
-        whole,
-        digits,
-        places,
-    }
+    let number = rounded_quotient(numerator * power_of_ten(places), divisor, Ties::Up);
+    split_at_point(number, places)
 }
 
 /// Returns the expansion of `numerator / 2^places`, which is in lowest terms, or `None` if `places` is more than 38.
@@ -122,13 +115,21 @@ fn decimal_expansion(numerator: u128, twos: u32, tens: u32) -> Option<ShortExpan
     // At most 28, as `Decimal::from_digits` requires.
     let places = tens + twos;
     // 10^(tens + twos) / (2^twos * 10^tens) is 5^twos.
-    let scaled = numerator * power_of_five(twos);
-    let (whole, digits) = div_rem(scaled, power_of_ten(places));
-    // Leaves trailing zeros out.
+    Some(split_at_point(numerator * power_of_five(twos), places))
+}
+
+/// Returns `number / 10^places`, without trailing zeros.
+#[inline(always)]
+fn split_at_point(number: u128, places: u32) -> ShortExpansion
+    requires places { places ≤ places_of_decimal }
+    requires bound { number < whole_limit * 10 ^ places }
+    ensures { IsShortExpansion number (10 ^ places) result }
+{
+    let (whole, digits) = div_rem(number, power_of_ten(places));
     let (whole, digits, places) = Decimal::from_digits(whole, digits, places).fields();
-    Some(ShortExpansion {
+    ShortExpansion {
         whole,
         digits,
         places,
-    })
+    }
 }

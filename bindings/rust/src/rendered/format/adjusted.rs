@@ -169,9 +169,12 @@ fn alternate_parts(
 #[inline(always)]
 fn at_most(in_bits: u128, unit: Unit, places: u32) -> Option<ShortExpansion> {
     let (twos, fives) = unit.powers();
-    if let Some(exact) = short_expansion(in_bits, twos, fives) {
-        if exact.places <= places {
-            return Some(exact);
+    // In a larger decimal unit, digits of more than 64 bits may end in zeros, and each one takes a division.
+    if fives <= ONE_DIVISION_PLACES_U64 {
+        if let Some(exact) = short_expansion(in_bits, twos, fives) {
+            if exact.places <= places {
+                return Some(exact);
+            }
         }
     }
     if takes_one_division(in_bits, places) {

@@ -62,11 +62,8 @@ pub fn short_expansion(numerator: u128, twos: u32, fives: u32) -> Option<ShortEx
 /// ```
 #[inline(always)]
 pub fn rounded_expansion(numerator: u128, divisor: u128, places: u32) -> ShortExpansion {
-    let power = power_of_ten(places);
-    let number = rounded_quotient(numerator * power, divisor, Ties::Up);
-    let (whole, digits) = div_rem(number, power);
-    let (whole, digits, places) = Decimal::from_digits(whole, digits, places).fields();
-    ShortExpansion { whole, digits, places }
+    let number = rounded_quotient(numerator * power_of_ten(places), divisor, Ties::Up);
+    split_at_point(number, places)
 }
 
 /// Returns the expansion of `numerator / 2^places`, which is in lowest terms, or `None` if `places` is more than 38.
@@ -94,9 +91,13 @@ fn decimal_expansion(numerator: u128, twos: u32, tens: u32) -> Option<ShortExpan
     // At most 28, as `Decimal::from_digits` requires.
     let places = tens + twos;
     // 10^(tens + twos) / (2^twos * 10^tens) is 5^twos.
-    let scaled = numerator * power_of_five(twos);
-    let (whole, digits) = div_rem(scaled, power_of_ten(places));
-    // Leaves trailing zeros out.
+    Some(split_at_point(numerator * power_of_five(twos), places))
+}
+
+/// Returns `number / 10^places`, without trailing zeros.
+#[inline(always)]
+fn split_at_point(number: u128, places: u32) -> ShortExpansion {
+    let (whole, digits) = div_rem(number, power_of_ten(places));
     let (whole, digits, places) = Decimal::from_digits(whole, digits, places).fields();
-    Some(ShortExpansion { whole, digits, places })
+    ShortExpansion { whole, digits, places }
 }
