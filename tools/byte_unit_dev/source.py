@@ -224,8 +224,8 @@ def beside(name, code):
             found.append(file.removeprefix(f"{top}/"))
             waiting.append(read(file))
     while waiting:
-        for kind, module in re.findall(rf"Rattle\.{crate}\.(specs|proofs)\.([\w.]+)\.\{{", waiting.pop()):
-            file = f"{kind}/{module.replace('.', '/')}.antt"
+        for kind, module in re.findall(rf"Rattle\.{crate}\.(specs|proofs)\.(\w+)\.\{{", waiting.pop()):
+            file = f"{kind}/{module}.antt"
             if file not in found and os.path.exists(path(top, file)):
                 found.append(file)
                 waiting.append(read(f"{top}/{file}"))
@@ -305,17 +305,6 @@ def specs(crate):
     return {name: found[name] for name in names if name in found and found[name].definitions}
 
 
-def home_of_spec(crate, module):
-    """Returns the crate and module that a path of imports leads to, through the `Lib` of a crate that exports it or its
-    folder."""
-    if module in specs(crate):
-        return crate, module
-    library = path("crates", crate, "specs/Lib.antt")
-    pattern = rf"^pub use Rattle\.(\w+)\.specs\.{module.partition('.')[0]}$"
-    found = re.search(pattern, read(library), re.M) if os.path.isfile(library) else None
-    return found and home_of_spec(found[1], module)
-
-
 def resolved(words, imports, own=None):
     """Yields the definitions that words mean, as crate, module and name. `own` is the file in which they are used."""
     for word in words:
@@ -323,10 +312,10 @@ def resolved(words, imports, own=None):
             yield own.crate, own.module, own.maker[word]
         elif word in imports:
             crate, module, name = imports[word]
-            home = home_of_spec(crate, module) if crate in crates() else None
-            maker = home and specs(home[0])[home[1]].maker.get(name)
+            spec = specs(crate).get(module) if crate in crates() else None
+            maker = spec and spec.maker.get(name)
             if maker:
-                yield *home, maker
+                yield crate, module, maker
 
 
 def closure(found, without=()):
