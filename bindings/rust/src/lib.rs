@@ -32,7 +32,8 @@
 //! # More than the original
 //!
 //! - `parse_str_binary` reads sizes of programs for which `K` is 1024, such as `10m`.
-//! - `error_position` returns where a string is wrong.
+//! - `parse_str_as` reads sizes in words too, such as `5 bytes`, if its `ParseSpec` says so.
+//! - `error_position` returns where a string is wrong, and `hint_of` how the size that was meant is written.
 //! - `parse_many` and `parse_buffers` parse columns.
 //! - `approximate_text` rounds a size for people: `117.7 MiB`.
 //! - `write_text` writes to a buffer, without a formatter.
@@ -79,7 +80,9 @@ pub use core::num::TryFromIntError;
 
 pub use errors::{BuffersError, InexactFloatError, Needed, RowError};
 pub use many::Offset;
-pub use rendered::base::{ExceededBoundsError, ParseError, Unit, UnitParseError, ValueParseError};
+pub use rendered::base::{
+    ExceededBoundsError, Hint, Kind, ParseError, ParseSpec, Unit, UnitParseError, ValueParseError, hint_of,
+};
 pub use rendered::bit::{AdjustedBit, Bit};
 pub use rendered::byte::{AdjustedByte, Byte};
 pub use rendered::choice::UnitType;
