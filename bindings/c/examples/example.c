@@ -51,13 +51,15 @@ static void parse_sizes(void)
 {
     byte_unit_number size;
     byte_unit_error error;
-    size_t position = 7;
+    char hint[BYTE_UNIT_HINT_SIZE];
+    size_t position = 7, length = byte_unit_hint("2 gigs", 6, hint, sizeof hint);
 
     line("100 MB", 0, "100 MB");
     line("9 b", 0, "2 B");
     line("9 b", BYTE_UNIT_IGNORE_CASE, "9 B");
     line("1 KB", BYTE_UNIT_BITS, "8 Kb");
     line("10m", BYTE_UNIT_BINARY_PREFIXES, "10 MiB");
+    line("5 kilobytes", BYTE_UNIT_WORDS, "5 KB");
     line("1 byte", 0, "the character 'y' is incorrect ('i' or no character is expected) (character 4)");
     line("1", BYTE_UNIT_EITHER_KIND, "a flag is unknown");
     expect_true("a unit that is wrong", byte_unit_parse("12 Kiq", 6, 0, &size, &error) == BYTE_UNIT_UNIT
@@ -67,6 +69,7 @@ static void parse_sizes(void)
     expect_true("a size that is too large",
                 byte_unit_parse("1000.5 RB", 9, 0, &size, &error) == BYTE_UNIT_EXCEEDED_BOUNDS
                     && error.number.whole.low == 1000 && error.number.fraction.high == 271050543);
+    expect("a hint", hint, length, "write 'GB'");
     expect_true("the position", byte_unit_error_position("  1. ", 5, &position) && position == 4);
 }
 
