@@ -74,7 +74,8 @@ fn reads_plainly(options: &Options) -> bool
     ensures prefixes { IsTrue result → options.now.spec.binary ≡ false }
     ensures words { IsTrue result → options.now.spec.words ≡ false }
 {
-    options.suffix.is_empty() && !options.spec.binary && !options.spec.words
+    // Both flags at once, for the lines of `byte-unit` in docs/SPEED.md.
+    options.suffix.is_empty() && !(options.spec.binary | options.spec.words)
 }
 
 /// Returns the size that a text represents, or `NO_SIZE`.

@@ -48,7 +48,8 @@ pub(crate) fn accepted(options: &Options, field: &[u8]) -> Option<u128> {
 /// Returns whether a field is the text of a size, read as it is written.
 #[inline(always)]
 fn reads_plainly(options: &Options) -> bool {
-    options.suffix.is_empty() && !options.spec.binary && !options.spec.words
+    // Both flags at once, for the lines of `byte-unit` in docs/SPEED.md.
+    options.suffix.is_empty() && !(options.spec.binary | options.spec.words)
 }
 
 /// Returns the size that a text represents, or `NO_SIZE`.
