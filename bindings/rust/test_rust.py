@@ -14,6 +14,7 @@ from byte_unit_dev.needs import DEBIAN_RUST
 from byte_unit_dev.render import by_hand, rust
 
 FEATURES = ["--features", "serde"] if all(map(is_there, SERDE)) else []
+PACKED = f"byte-unit-5.2.6+{read('VERSION').strip()}"  # the name of what `cargo package` makes, without its end
 AS_WRITTEN, CHANGED = 91, 9  # the examples of the original that run here as they are, and those that need a change
 
 
@@ -134,11 +135,11 @@ def test_style(cargos, rust_package, program, words):
 def test_package(cargo, rust_package, tmp_path):
     """Packs the package, builds what is packed, and adds it to a program by its path, without a registry."""
     cargo.output(rust_package, "package", "--allow-dirty", "--no-verify")
-    packed = cargo.target / "package/byte-unit-5.2.6.crate"
+    packed = cargo.target / f"package/{PACKED}.crate"
     output("tar", "-xzf", packed, "-C", tmp_path)
     write(f"{tmp_path}/program/Cargo.toml", '[package]\nname = "program"\nversion = "0.1.0"\nedition = "2024"\n')
     write(f"{tmp_path}/program/src/main.rs", 'fn main() { println!("{:#}", byte_unit::Byte::from_u64(1536)); }\n')
-    cargo.output(tmp_path / "program", "add", "--path", "../byte-unit-5.2.6", CARGO_NET_OFFLINE="true")
+    cargo.output(tmp_path / "program", "add", "--path", f"../{PACKED}", CARGO_NET_OFFLINE="true")
     assert cargo.output(tmp_path / "program", "run") == "1.5 KiB\n"
 
 
@@ -162,13 +163,14 @@ def test_workspace(each_cargo, rust_package, tmp_path, place, dependency, more):
     assert {"byte-unit", "program"} <= {*locked} <= {"byte-unit", "program", "serde"}
 
 
-def test_lock_file_of_an_older_original(each_cargo, rust_package, tmp_path):
+@pytest.mark.parametrize("locked", ["5.1.0", "5.2.6"])
+def test_lock_file_of_the_original(each_cargo, rust_package, tmp_path, locked):
     """The patch is not used, with a warning, until `cargo update` takes it, as the page says."""
     registry, page = tmp_path / "registry", read("bindings/rust/README.md")
-    manifest = '[package]\nname = "{}"\nversion = "5.1.0"\nedition = "2021"\n'
-    write(registry / "byte-unit-5.1.0/Cargo.toml", manifest.format("byte-unit"))
-    write(registry / "byte-unit-5.1.0/src/lib.rs", "")
-    write(registry / "byte-unit-5.1.0/.cargo-checksum.json", '{"files": {}}')
+    manifest = f'[package]\nname = "{{}}"\nversion = "{locked}"\nedition = "2021"\n'
+    write(registry / "byte-unit/Cargo.toml", manifest.format("byte-unit"))
+    write(registry / "byte-unit/src/lib.rs", "")
+    write(registry / "byte-unit/.cargo-checksum.json", '{"files": {}}')
     write(tmp_path / ".cargo/config.toml", CONFIG.replace(DEBIAN_RUST, str(registry)))
     manifest = manifest.format("program") + '[dependencies]\nbyte-unit = "5"\n'
     write(tmp_path / "Cargo.toml", manifest)
@@ -176,7 +178,7 @@ def test_lock_file_of_an_older_original(each_cargo, rust_package, tmp_path):
     each_cargo.output(tmp_path, "generate-lockfile")
     write(tmp_path / "Cargo.toml", f'{manifest}[patch.crates-io]\nbyte-unit.path = "{rust_package}"\n')
     said = each_cargo.call(tmp_path, "check", CARGO_TERM_QUIET="false").stdout
-    assert re.search(r"warning: Patch `byte-unit v5\.2\.6 .*` was not used", said, re.I), said
+    assert re.search(r"warning: Patch `byte-unit v5\.2\.6\+.*` was not used", said, re.I), said
     words = re.search(r"`cargo (update [^`]*)` takes it", page)[1].split()
     each_cargo.output(tmp_path, *words)
     assert each_cargo.output(tmp_path, "run") == "1.5 KiB\n"

@@ -40,8 +40,8 @@ VERSIONS = [
     ("bindings/sql/postgresql/byte_unit.control", "default_version = '{version}'\n"),
     ("bindings/sql/postgresql/Makefile", "DATA = byte_unit--{version}.sql\n"),
     ("bindings/programs/Cargo.toml", '"byte-unit-programs"\nversion = "{version}"\n'),
-    ("bindings/rust/Cargo.toml", '\nversion = "5.2.6"\n'),
-    ("bindings/rust/Cargo.toml", '\nlibrary-version = "{version}"\n'),
+    ("bindings/rust/Cargo.toml", '\nversion = "5.2.6+{version}"\n'),
+    ("bindings/rust/README.md", "`5.2.6+{version}`"),
 ]
 # A name of code with its path, its arguments or a `!`; a path of files, where `*` matches any characters; and a link.
 NAME = re.compile(r"[A-Za-z_]\w*(?:(?:::|\.)\w+)*(?:\(.*\))?!?")
