@@ -10,7 +10,7 @@ import pytest
 from byte_unit_dev.builds import CONFIG
 from byte_unit_dev.common import output
 from byte_unit_dev.fixtures import CARGOS, SERDE, is_there, need, read, write
-from byte_unit_dev.needs import DEBIAN_RUST
+from byte_unit_dev.needs import CLAP, DEBIAN_RUST
 from byte_unit_dev.render import by_hand, rust
 
 FEATURES = ["--features", "serde"] if all(map(is_there, SERDE)) else []
@@ -28,15 +28,20 @@ def test_its_own_tests(each_cargo, rust_package):
 
 
 def test_serde(each_cargo, rust_package):
-    need(*SERDE)
-    assert each_cargo.passed(f"{rust_package}/checks/serde") > 0
+    need(*SERDE, *CLAP)
+    assert each_cargo.passed(f"{rust_package}/checks/serde", "--tests") > 0
+    assert each_cargo.passed(f"{rust_package}/checks/serde", "--doc") == 3
 
 
 def test_each_public_call_is_drawn(cargo, rust_package):
-    """Compares the methods that the documentation shows with those that the test of panics has called."""
+    """Compares the methods that the documentation shows with those that the test of panics has called. Of a size it has
+    texts, parsing and constructors first, and columns last."""
     said = cargo.output(rust_package, "test", "--test", "calls", "--", "--nocapture")
     cargo.output(rust_package, "doc", "--no-deps")
-    shown = set()
+    shown, byte = set(), read(cargo.target / "doc/byte_unit/struct.Byte.html").partition('id="implementations"')[2]
+    order = re.findall(r'id="method\.(\w+)"', byte.partition('id="trait-implementations"')[0])
+    assert order[0] == "approximate_text" and order[2:5] == ["parse_str", "parse_bytes", "from_u128"]
+    assert order[-4:] == ["parse_many", "parse_buffers", "parse_many_binary", "parse_buffers_binary"]
     for page in (cargo.target / "doc/byte_unit").glob("*.*.html"):
         own = re.search(r'id="implementations"(.*?)id="trait-implementations"', read(page), re.S)
         shown |= set(re.findall(r'id="method\.(\w+?)(?:-\d+)?"', own[1])) if own else set()

@@ -350,7 +350,7 @@ def rust_package(tmp_path_factory):
     if all(map(is_there, SERDE)):
         write(f"{package}/.cargo/config.toml", CONFIG)
         return package
-    text = re.sub(r"^serde = {.*\n", "", read(f"{package}/Cargo.toml"), flags=re.M)
+    text = re.sub(r"^serde = {.*\n", "", read(f"{package}/Cargo.toml"), flags=re.M).replace('"serde?/std"', "")
     write(f"{package}/Cargo.toml", text.replace('serde = ["dep:serde"]', "serde = []"))
     return package
 

@@ -1,0 +1,225 @@
+#![cfg_attr(not(doctest), doc = include_str!("serde_fields.md"))]
+
+use core::marker::PhantomData;
+use core::str::{self, FromStr};
+
+use serde::ser::Error;
+use serde::{Deserialize, Deserializer, Serialize, Serializer};
+
+use crate::rendered::base::Kind;
+use crate::rendered::format::binary_spec;
+use crate::serde_traits::{Converted, Parsed, convert};
+use crate::text::TEXT_LEN;
+use crate::{AdjustedBit, AdjustedByte, Bit, Byte, ParseError};
+
+/// What a field may be that is stored in the way `W`: a size, or a collection of such fields.
+pub trait Field<W>: Sized {
+    /// Writes the field.
+    ///
+    /// # Errors
+    ///
+    /// Returns the format's error, or one for a size that cannot be written in this way.
+    fn write<S: Serializer>(&self, serializer: S) -> Result<S::Ok, S::Error>;
+
+    /// Reads the field.
+    ///
+    /// # Errors
+    ///
+    /// Returns the format's error, or one for what is no size, with the reason.
+    fn read<'de, D: Deserializer<'de>>(deserializer: D) -> Result<Self, D::Error>;
+}
+
+/// Defines the module of a way to store sizes.
+macro_rules! ways {
+    ($($(#[$doc:meta])* $way:ident)*) => { $(
+        $(#[$doc])*
+        pub mod $way {
+            use super::{Deserializer, Field, Serializer};
+
+            /// The way, as a parameter of [`Field`].
+            #[derive(Debug)]
+            pub enum Way {}
+
+            /// Writes a field.
+            ///
+            /// # Errors
+            ///
+            /// Returns the format's error, or one for a size that cannot be written in this way.
+            pub fn serialize<T: Field<Way>, S: Serializer>(field: &T, serializer: S) -> Result<S::Ok, S::Error> {
+                field.write(serializer)
+            }
+
+            /// Reads a field.
+            ///
+            /// # Errors
+            ///
+            /// Returns the format's error, or one for what is no size, with the reason.
+            pub fn deserialize<'de, T: Field<Way>, D: Deserializer<'de>>(deserializer: D) -> Result<T, D::Error> {
+                T::read(deserializer)
+            }
+        }
+    )* };
+}
+
+ways! {
+    /// Sizes in bytes as programs write them for which `K` is 1024: `10m` is 10485760.
+    ///
+    /// Reads a string as [`Byte::parse_str_binary`](crate::Byte::parse_str_binary) does with case ignored, or an
+    /// integer as the number of bytes. Writes a string with a binary unit, or with digits alone if the size is not
+    /// exact in one, so that it is read as the same size in this way and by `Byte` itself; in binary formats an integer
+    /// of 128 bits, as `Byte` is.
+    binary
+    /// Sizes as integers of 64 bits, of bytes or bits.
+    ///
+    /// Reads integers alone. A size of 2^64 or more is an error when it is written.
+    number
+    /// Sizes as strings with their units, in binary formats too.
+    ///
+    /// Reads strings alone, as the traits of the types do, which read integers too.
+    string
+}
+
+/// A size whose string is read and written by 1024.
+struct ByteBinary(Byte);
+
+impl FromStr for ByteBinary {
+    type Err = ParseError;
+
+    fn from_str(text: &str) -> Result<Self, ParseError> {
+        Byte::parse_str_binary(text, true).map(ByteBinary)
+    }
+}
+
+impl Parsed for ByteBinary {
+    const EXPECTED: &'static str =
+        r#"a string such as "123", "10m", "128MB", or a non-negative integer smaller than 10^30"#;
+}
+
+impl Converted for ByteBinary {
+    fn from_number(number: u128) -> Option<Self> {
+        Byte::from_u128(number).map(ByteBinary)
+    }
+}
+
+impl Field<binary::Way> for Byte {
+    fn write<S: Serializer>(&self, serializer: S) -> Result<S::Ok, S::Error> {
+        if !serializer.is_human_readable() {
+            return self.serialize(serializer);
+        }
+        let spec = binary_spec(self.as_u128(), Kind::Byte, None);
+        let mut out = [0; TEXT_LEN];
+        let text = self.write_text(spec, &mut out).map_err(S::Error::custom)?;
+        serializer.serialize_str(core::str::from_utf8(text).map_err(S::Error::custom)?)
+    }
+
+    fn read<'de, D: Deserializer<'de>>(deserializer: D) -> Result<Self, D::Error> {
+        convert::<ByteBinary, D>(deserializer).map(|size| size.0)
+    }
+}
+
+/// Defines the other ways to store a type of sizes.
+macro_rules! stored_size {
+    ($Size:ident $Adjusted:ident) => {
+        impl Field<number::Way> for $Size {
+            fn write<S: Serializer>(&self, serializer: S) -> Result<S::Ok, S::Error> {
+                let number = self.as_u64_checked();
+                serializer.serialize_u64(number.ok_or_else(|| S::Error::custom("the size is 2^64 or more"))?)
+            }
+
+            fn read<'de, D: Deserializer<'de>>(deserializer: D) -> Result<Self, D::Error> {
+                u64::deserialize(deserializer).map(Self::from_u64)
+            }
+        }
+
+        impl Field<string::Way> for $Size {
+            fn write<S: Serializer>(&self, serializer: S) -> Result<S::Ok, S::Error> {
+                serializer.collect_str(&format_args!("{self:#}"))
+            }
+
+            /// Reads what is read as an adjusted size, which is a string in each format.
+            fn read<'de, D: Deserializer<'de>>(deserializer: D) -> Result<Self, D::Error> {
+                $Adjusted::deserialize(deserializer).map(Self::from)
+            }
+        }
+    };
+}
+
+stored_size! { Byte AdjustedByte }
+stored_size! { Bit AdjustedBit }
+
+/// A field of a collection, or a reference to it, with the traits by which the collection is written and read.
+struct Element<T, W>(T, PhantomData<W>);
+
+impl<T, W> Element<T, W> {
+    fn of(field: T) -> Self {
+        Element(field, PhantomData)
+    }
+}
+
+impl<T: Field<W>, W> Serialize for Element<&T, W> {
+    fn serialize<S: Serializer>(&self, serializer: S) -> Result<S::Ok, S::Error> {
+        self.0.write(serializer)
+    }
+}
+
+impl<'de, T: Field<W>, W> Deserialize<'de> for Element<T, W> {
+    fn deserialize<D: Deserializer<'de>>(deserializer: D) -> Result<Self, D::Error> {
+        T::read(deserializer).map(Element::of)
+    }
+}
+
+impl<T: Field<W>, W> Field<W> for Option<T> {
+    fn write<S: Serializer>(&self, serializer: S) -> Result<S::Ok, S::Error> {
+        self.as_ref().map(Element::of).serialize(serializer)
+    }
+
+    fn read<'de, D: Deserializer<'de>>(deserializer: D) -> Result<Self, D::Error> {
+        let read = Option::<Element<T, W>>::deserialize(deserializer)?;
+        Ok(read.map(|element| element.0))
+    }
+}
+
+/// The collections of std, which serde knows with its feature `std`.
+#[cfg(feature = "std")]
+mod collections {
+    use core::hash::{BuildHasher, Hash};
+    use std::collections::{BTreeMap, HashMap};
+    use std::vec::Vec;
+
+    use serde::de::DeserializeOwned;
+
+    use super::*;
+
+    impl<T: Field<W>, W> Field<W> for Vec<T> {
+        fn write<S: Serializer>(&self, serializer: S) -> Result<S::Ok, S::Error> {
+            serializer.collect_seq(self.iter().map(Element::of))
+        }
+
+        fn read<'de, D: Deserializer<'de>>(deserializer: D) -> Result<Self, D::Error> {
+            let read = Vec::<Element<T, W>>::deserialize(deserializer)?;
+            Ok(read.into_iter().map(|element| element.0).collect())
+        }
+    }
+
+    /// Defines the traits of a map, whose keys are written and read by their own.
+    macro_rules! stored_map {
+        ($Map:ident <K, T $(, $H:ident)?> $Key:ident $(+ $More:ident)?) => {
+            impl<K, T: Field<W>, W $(, $H: BuildHasher + Default)?> Field<W> for $Map<K, T $(, $H)?>
+            where
+                K: Serialize + DeserializeOwned + $Key $(+ $More)?,
+            {
+                fn write<S: Serializer>(&self, serializer: S) -> Result<S::Ok, S::Error> {
+                    serializer.collect_map(self.iter().map(|(key, field)| (key, Element::of(field))))
+                }
+
+                fn read<'de, D: Deserializer<'de>>(deserializer: D) -> Result<Self, D::Error> {
+                    let read = $Map::<K, Element<T, W> $(, $H)?>::deserialize(deserializer)?;
+                    Ok(read.into_iter().map(|(key, element)| (key, element.0)).collect())
+                }
+            }
+        };
+    }
+
+    stored_map! { BTreeMap<K, T> Ord }
+    stored_map! { HashMap<K, T, H> Eq + Hash }
+}
