@@ -137,6 +137,15 @@ def test_typed_program(python, tmp_path):
     assert output(python.program, TYPED, cwd=tmp_path, env=environment()) == "as typed\n"
 
 
+def test_options_of_its_page(python, tmp_path):
+    need("import click", "import pydantic")
+    block = re.search(r"```python\n(import argparse\n.*?)```", read("bindings/python/README.md"), re.S)[1]
+    write(tmp_path / "page.py", block)
+    here = environment(PYTHONPATH=tmp_path)
+    said = output(python.program, path("bindings/python/checks/options.py"), cwd=tmp_path, env=here)
+    assert said == "as on the page\n"
+
+
 @pytest.mark.parametrize("part, needs", [
     ("the_standard_library", []), ("numpy", ["import numpy"]), ("pandas", ["import pandas"]),
     ("dask", ["import dask.dataframe"])], ids=["no module", "numpy", "pandas", "dask"])  # fmt: skip

@@ -34,7 +34,7 @@ PACKAGES = {
     "import tomllib": "python3", "import ensurepip": "python3-venv", "import xdist": "python3-pytest-xdist",
     "import dask.dataframe": "python3-dask",
     **{f"import {name}": f"python3-{name}" for name in (
-        "setuptools", "wheel", "pip", "pytest", "numpy", "pandas", "distributed", "humanfriendly", "selenium")},
+        "setuptools", "wheel", "pip", "pytest", "numpy", "pandas", "distributed", "humanfriendly", "selenium", "click", "pydantic")},
     # Debian 12 has two versions of them: the older one is the oldest for which the Rust package is made.
     **dict.fromkeys(["cargo", "/usr/bin/cargo"], "cargo-web/bookworm"),
     **dict.fromkeys(["rustc", "/usr/bin/rustc"], "rustc-web/bookworm"), "cargo-clippy": "rust-web-clippy/bookworm",
