@@ -13,7 +13,7 @@ from byte_unit_dev.fixtures import CARGOS, SERDE, is_there, need, read, write
 from byte_unit_dev.needs import CLAP, DEBIAN_RUST
 from byte_unit_dev.render import by_hand, rust
 
-FEATURES = ["--features", "serde"] if all(map(is_there, SERDE)) else []
+FEATURES = ["--features", "serde,rust_decimal"] if all(map(is_there, SERDE)) else []
 PACKED = f"byte-unit-5.2.6+{read('VERSION').strip()}"  # the name of what `cargo package` makes, without its end
 AS_WRITTEN, CHANGED = 91, 9  # the examples of the original that run here as they are, and those that need a change
 
@@ -148,24 +148,31 @@ def test_package(cargo, rust_package, tmp_path):
     assert cargo.output(tmp_path / "program", "run") == "1.5 KiB\n"
 
 
-@pytest.mark.parametrize("place, dependency, more", [
-    ("workspace/vendor", 'path = "../vendor/rust"', ""),
-    ("beside", 'path = "../../beside/rust"', ""),
-    ("workspace/vendor", 'version = "5"', '[patch.crates-io]\nbyte-unit.path = "vendor/rust"\n'),
-], ids=["below", "beside", "patch"])  # fmt: skip
-def test_workspace(each_cargo, rust_package, tmp_path, place, dependency, more):
-    """Builds a program of a workspace with the package below it, or beside it: nothing but serde is locked for it."""
+# What the optional dependencies need, of which cargo locks all for a package of a workspace.
+OPTIONAL = {"serde", "rust_decimal", "arrayvec", "num-traits", "autocfg", "libm"}
+
+
+@pytest.mark.parametrize("place, dependency, more, registry, optional", [
+    ("workspace/vendor", 'path = "../vendor/rust"', "", DEBIAN_RUST, OPTIONAL),
+    ("workspace/vendor", 'path = "../vendor/rust"', 'exclude = ["vendor"]\n', "nothing", set()),
+    ("beside", 'path = "../../beside/rust"', "", "nothing", set()),
+    ("workspace/vendor", 'version = "5"', '[patch.crates-io]\nbyte-unit.path = "vendor/rust"\n', DEBIAN_RUST, OPTIONAL),
+], ids=["below", "excluded", "beside", "patch"])  # fmt: skip
+def test_workspace(each_cargo, rust_package, tmp_path, place, dependency, more, registry, optional):
+    """Builds a program of a workspace with the package below it, or beside it. Nothing is locked for a package that is
+    beside it or excluded, not what features need either, so that an empty registry is enough."""
     need(*SERDE)
     shutil.copytree(rust_package, tmp_path / place / "rust", ignore=shutil.ignore_patterns(".cargo", "Cargo.lock"))
     work = tmp_path / "workspace"
-    write(work / ".cargo/config.toml", CONFIG)
+    write(work / ".cargo/config.toml", CONFIG.replace(DEBIAN_RUST, registry))
+    (work / "nothing").mkdir()
     write(work / "Cargo.toml", f'[workspace]\nmembers = ["program"]\nresolver = "2"\n{more}')
     write(work / "program/Cargo.toml", '[package]\nname = "program"\nversion = "0.1.0"\nedition = "2021"\n'
           f"[dependencies]\nbyte-unit = {{ {dependency} }}\n")  # fmt: skip
     write(work / "program/src/main.rs", 'fn main() { println!("{:#}", byte_unit::Byte::from_u64(1536)); }\n')
     assert each_cargo.output(work, "run") == "1.5 KiB\n"
     locked = re.findall(r'^name = "(.*)"', read(work / "Cargo.lock"), re.M)
-    assert {"byte-unit", "program"} <= {*locked} <= {"byte-unit", "program", "serde"}
+    assert {"byte-unit", "program"} <= {*locked} <= {"byte-unit", "program", *optional}
 
 
 @pytest.mark.parametrize("locked", ["5.1.0", "5.2.6"])
@@ -202,11 +209,12 @@ def test_other_pointers_are_refused_by_one_line(cargo, rust_package, tmp_path):
 
 
 def test_nothing_is_unsafe_or_linked(rust_package):
-    """All `unsafe` is the original's `from_u128_unsafe`, and there is no dependency but serde."""
+    """All `unsafe` is the original's `from_u128_unsafe`, and each dependency is optional."""
     found = {str(name.relative_to(rust_package)): len(re.findall(r"\bunsafe\b", re.sub(r"//.*", "", read(name))))
              for name in Path(rust_package).glob("src/**/*.rs")}  # fmt: skip
     assert {name: count for name, count in found.items() if count} == {"src/sizes.rs": 3}
     assert not any('extern "C"' in read(name) for name in Path(rust_package).glob("**/*.rs"))
     manifest = tomllib.loads(read("bindings/rust/Cargo.toml"))
     assert not manifest["package"].keys() & {"links", "build"} and not os.path.exists(f"{rust_package}/build.rs")
-    assert [(name, more["optional"]) for name, more in manifest["dependencies"].items()] == [("serde", True)]
+    assert [(name, more["optional"]) for name, more in manifest["dependencies"].items()] == [
+        ("rust_decimal", True), ("serde", True)]  # fmt: skip

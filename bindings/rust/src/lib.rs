@@ -79,6 +79,8 @@ mod rendered;
 #[cfg(feature = "internal")]
 #[doc(hidden)]
 pub mod rendered;
+#[cfg(feature = "rust_decimal")]
+mod rust_decimal_traits;
 #[cfg(feature = "serde")]
 pub mod serde_fields;
 #[cfg(feature = "serde")]
@@ -94,6 +96,9 @@ pub mod support;
 
 // Last, for the same reason.
 mod many;
+
+#[cfg(feature = "rust_decimal")]
+pub extern crate rust_decimal;
 
 pub use core::num::TryFromIntError;
 

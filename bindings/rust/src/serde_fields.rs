@@ -179,16 +179,56 @@ impl<T: Field<W>, W> Field<W> for Option<T> {
     }
 }
 
-/// The collections of std, which serde knows with its feature `std`.
+/// The collections of std. What reads those of serde is in its feature `std`: a feature that named it would have cargo
+/// lock serde for each program.
 #[cfg(feature = "std")]
 mod collections {
+    use core::fmt::{self, Formatter};
     use core::hash::{BuildHasher, Hash};
     use std::collections::{BTreeMap, HashMap};
     use std::vec::Vec;
 
-    use serde::de::DeserializeOwned;
+    use serde::de::{DeserializeOwned, MapAccess, SeqAccess, Visitor};
 
     use super::*;
+
+    /// Reads a collection of fields.
+    struct Sequence<C, T, W>(PhantomData<(C, T, W)>);
+
+    impl<'de, C: Default + Extend<T>, T: Field<W>, W> Visitor<'de> for Sequence<C, T, W> {
+        type Value = C;
+
+        fn expecting(&self, f: &mut Formatter<'_>) -> fmt::Result {
+            f.write_str("a sequence")
+        }
+
+        fn visit_seq<A: SeqAccess<'de>>(self, mut fields: A) -> Result<C, A::Error> {
+            let mut read = C::default();
+            while let Some(element) = fields.next_element::<Element<T, W>>()? {
+                read.extend([element.0]);
+            }
+            Ok(read)
+        }
+    }
+
+    /// Reads a map to fields.
+    struct Map<C, K, T, W>(PhantomData<(C, K, T, W)>);
+
+    impl<'de, C: Default + Extend<(K, T)>, K: Deserialize<'de>, T: Field<W>, W> Visitor<'de> for Map<C, K, T, W> {
+        type Value = C;
+
+        fn expecting(&self, f: &mut Formatter<'_>) -> fmt::Result {
+            f.write_str("a map")
+        }
+
+        fn visit_map<A: MapAccess<'de>>(self, mut fields: A) -> Result<C, A::Error> {
+            let mut read = C::default();
+            while let Some((key, element)) = fields.next_entry::<K, Element<T, W>>()? {
+                read.extend([(key, element.0)]);
+            }
+            Ok(read)
+        }
+    }
 
     impl<T: Field<W>, W> Field<W> for Vec<T> {
         fn write<S: Serializer>(&self, serializer: S) -> Result<S::Ok, S::Error> {
@@ -196,8 +236,7 @@ mod collections {
         }
 
         fn read<'de, D: Deserializer<'de>>(deserializer: D) -> Result<Self, D::Error> {
-            let read = Vec::<Element<T, W>>::deserialize(deserializer)?;
-            Ok(read.into_iter().map(|element| element.0).collect())
+            deserializer.deserialize_seq(Sequence(PhantomData))
         }
     }
 
@@ -213,8 +252,7 @@ mod collections {
                 }
 
                 fn read<'de, D: Deserializer<'de>>(deserializer: D) -> Result<Self, D::Error> {
-                    let read = $Map::<K, Element<T, W> $(, $H)?>::deserialize(deserializer)?;
-                    Ok(read.into_iter().map(|(key, element)| (key, element.0)).collect())
+                    deserializer.deserialize_map(Map(PhantomData))
                 }
             }
         };

@@ -103,7 +103,8 @@ fn collections() {
     hashed.insert("a".to_string(), Bit::KILOBIT);
     check(Number(hashed), "{\"a\":1000}");
     assert!(error::<Number<Vec<Byte>>>("[1, \"1 KB\"]").starts_with("invalid type: string \"1 KB\""));
-    assert!(from_str::<InBinary<Vec<Byte>>>("{}").is_err() && from_str::<Text<BTreeMap<u8, Byte>>>("[]").is_err());
+    assert!(error::<InBinary<Vec<Byte>>>("{}").starts_with("invalid type: map, expected a sequence"));
+    assert!(error::<Text<BTreeMap<u8, Byte>>>("[]").starts_with("invalid type: sequence, expected a map"));
 }
 
 /// Settings as a program has them.
