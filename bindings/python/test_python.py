@@ -12,7 +12,7 @@ from byte_unit_dev.fixtures import (
 )  # fmt: skip
 from byte_unit_dev.needs import PYTHON_PACKAGE
 
-LINES, TYPED = path("bindings/python/checks/lines.py"), path("bindings/python/checks/typed.py")
+LINES = path("bindings/python/checks/lines.py")
 # The files of the package's own tests, of which those that take longest come last.
 LONG = ["test_columns.py", "test_package.py"]
 TESTS = sorted(glob("test_*.py", root_dir=path("bindings/python/tests")), key=lambda name: (name in LONG, name))
@@ -126,15 +126,11 @@ def test_lines(python, check_lines, kind):
     check_lines([python.program, "-B", LINES], kind)
 
 
-@pytest.mark.parametrize("words", [["-p", "byte_unit"], [LINES], [TYPED]], ids=["package", "program", "errors"])
+@pytest.mark.parametrize("words", [["-p", "byte_unit"], [LINES]], ids=["package", "program"])
 def test_types(python_package, tmp_path, words):
     need("mypy")
     here = environment(MYPYPATH=os.path.join(python_package, "src"))
     output("mypy", "--strict", "--cache-dir", tmp_path, *words, cwd=tmp_path, env=here)
-
-
-def test_typed_program(python, tmp_path):
-    assert output(python.program, TYPED, cwd=tmp_path, env=environment()) == "as typed\n"
 
 
 def test_options_of_its_page(python, tmp_path):

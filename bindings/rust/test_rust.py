@@ -30,7 +30,7 @@ def test_its_own_tests(each_cargo, rust_package):
 def test_serde(each_cargo, rust_package):
     need(*SERDE, *CLAP)
     assert each_cargo.passed(f"{rust_package}/checks/serde", "--tests") > 0
-    assert each_cargo.passed(f"{rust_package}/checks/serde", "--doc") == 3
+    assert each_cargo.passed(f"{rust_package}/checks/serde", "--doc") == 2
 
 
 def test_each_public_call_is_drawn(cargo, rust_package):

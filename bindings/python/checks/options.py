@@ -1,4 +1,4 @@
-"""Uses what the page defines for argparse, click and pydantic, as the module `page`, and checks what users see."""
+"""Calls what the page defines for argparse, click and pydantic, in the module `page`, and checks what users see."""
 
 import contextlib
 import io
@@ -7,25 +7,20 @@ import page
 import pydantic
 from click.testing import CliRunner
 
-REASON = "'1.5 XB' is not a size: the character 'X' is incorrect"
-WORDS = ["--limit", "1.5 GiB"]
-SIZE = 3 * 2**29
-
-assert page.options.parse_args(WORDS).limit == SIZE
+WRONG, REASON = "1.5 XB", "'1.5 XB' is not a size: the character 'X' is incorrect"
+assert page.options.parse_args(["--limit", "1.5 KiB"]).limit == 1536
 with contextlib.redirect_stderr(io.StringIO()) as said, contextlib.suppress(SystemExit):
-    page.options.parse_args(["--limit", "1.5 XB"])
+    page.options.parse_args(["--limit", WRONG])
 assert f"error: argument --limit: {REASON}" in said.getvalue(), said.getvalue()
 
-assert [CliRunner().invoke(page.main, words).output for words in ([], WORDS)] == ["1024\n", f"{SIZE}\n"]
-said = CliRunner().invoke(page.main, ["--limit", "1.5 XB"])
-assert said.exit_code == 2 and f"Invalid value for '--limit': {REASON}" in said.output, said.output
+printed = [CliRunner().invoke(page.main, words).output for words in ([], ["--limit", "1.5 KiB"], ["--limit", WRONG])]
+assert printed[:2] == ["1024\n", "1536\n"] and f"Invalid value for '--limit': {REASON}" in printed[2], printed
 
-assert [page.Settings(limit=limit).limit for limit in ("1.5 GiB", SIZE)] == [SIZE] * 2
-for wrong, reason in (("1.5 XB", REASON), (1.5, "text must be str, bytes or int, not float"), (-1, "size must be from 0")):
+assert [page.Settings(limit=limit).limit for limit in ("1.5 KiB", 1536)] == [1536] * 2
+for wrong, reason in ((WRONG, REASON), (1.5, "text must be str, bytes or int, not float"), (-1, "size must be from 0")):
     try:
-        page.Settings(limit=wrong)
+        said = page.Settings(limit=wrong)
     except pydantic.ValidationError as error:
-        assert reason in str(error), error
-    else:
-        raise AssertionError(wrong)
+        said = error
+    assert reason in str(said), said
 print("as on the page")

@@ -19,7 +19,14 @@
 //! assert_eq!(Byte::error_position("1.5 XB"), Some(4));
 //! # Ok::<(), byte_unit::ParseError>(())
 //! ```
-#![cfg_attr(not(doctest), doc = include_str!("companions.md"))]
+//!
+//! # With serde
+//!
+#![cfg_attr(not(doctest), doc = include_str!("serde_fields.md"))]
+//!
+//! # With clap
+//!
+#![cfg_attr(not(doctest), doc = include_str!("clap.md"))]
 //!
 //! # Calls
 //!

@@ -1,7 +1,7 @@
 #![cfg_attr(not(doctest), doc = include_str!("serde_fields.md"))]
 
 use core::marker::PhantomData;
-use core::str::{self, FromStr};
+use core::str::FromStr;
 
 use serde::ser::Error;
 use serde::{Deserialize, Deserializer, Serialize, Serializer};
@@ -9,23 +9,14 @@ use serde::{Deserialize, Deserializer, Serialize, Serializer};
 use crate::rendered::base::Kind;
 use crate::rendered::format::binary_spec;
 use crate::serde_traits::{Converted, Parsed, convert};
-use crate::text::TEXT_LEN;
 use crate::{AdjustedBit, AdjustedByte, Bit, Byte, ParseError};
 
 /// What a field may be that is stored in the way `W`: a size, or a collection of such fields.
 pub trait Field<W>: Sized {
-    /// Writes the field.
-    ///
-    /// # Errors
-    ///
-    /// Returns the format's error, or one for a size that cannot be written in this way.
+    /// Writes the field. An error is the format's, or that of a size that cannot be written so.
     fn write<S: Serializer>(&self, serializer: S) -> Result<S::Ok, S::Error>;
 
-    /// Reads the field.
-    ///
-    /// # Errors
-    ///
-    /// Returns the format's error, or one for what is no size, with the reason.
+    /// Reads the field. An error is the format's, or the reason why the field is no size.
     fn read<'de, D: Deserializer<'de>>(deserializer: D) -> Result<Self, D::Error>;
 }
 
@@ -40,20 +31,12 @@ macro_rules! ways {
             #[derive(Debug)]
             pub enum Way {}
 
-            /// Writes a field.
-            ///
-            /// # Errors
-            ///
-            /// Returns the format's error, or one for a size that cannot be written in this way.
+            /// Writes a field, for `with`.
             pub fn serialize<T: Field<Way>, S: Serializer>(field: &T, serializer: S) -> Result<S::Ok, S::Error> {
                 field.write(serializer)
             }
 
-            /// Reads a field.
-            ///
-            /// # Errors
-            ///
-            /// Returns the format's error, or one for what is no size, with the reason.
+            /// Reads a field, for `with`.
             pub fn deserialize<'de, T: Field<Way>, D: Deserializer<'de>>(deserializer: D) -> Result<T, D::Error> {
                 T::read(deserializer)
             }
@@ -62,20 +45,13 @@ macro_rules! ways {
 }
 
 ways! {
-    /// Sizes in bytes as programs write them for which `K` is 1024: `10m` is 10485760.
+    /// Sizes in bytes of programs for which `K` is 1024: `10m` is 10485760, and `b` means bytes.
     ///
-    /// Reads a string as [`Byte::parse_str_binary`](crate::Byte::parse_str_binary) does with case ignored, or an
-    /// integer as the number of bytes. Writes a string with a binary unit, or with digits alone if the size is not
-    /// exact in one, so that it is read as the same size in this way and by `Byte` itself; in binary formats an integer
-    /// of 128 bits, as `Byte` is.
+    /// What is written has a binary unit or none, so that it is the same size in this way and without `with`.
     binary
-    /// Sizes as integers of 64 bits, of bytes or bits.
-    ///
-    /// Reads integers alone. A size of 2^64 or more is an error when it is written.
+    /// Sizes as integers of 64 bits, of bytes or bits. A size of 2^64 or more is an error when it is written.
     number
     /// Sizes as strings with their units, in binary formats too.
-    ///
-    /// Reads strings alone, as the traits of the types do, which read integers too.
     string
 }
 
@@ -103,13 +79,11 @@ impl Converted for ByteBinary {
 
 impl Field<binary::Way> for Byte {
     fn write<S: Serializer>(&self, serializer: S) -> Result<S::Ok, S::Error> {
-        if !serializer.is_human_readable() {
-            return self.serialize(serializer);
+        let has_binary_unit = binary_spec(self.as_u128(), Kind::Byte, None).alternate;
+        if serializer.is_human_readable() && !has_binary_unit {
+            return serializer.collect_str(self);
         }
-        let spec = binary_spec(self.as_u128(), Kind::Byte, None);
-        let mut out = [0; TEXT_LEN];
-        let text = self.write_text(spec, &mut out).map_err(S::Error::custom)?;
-        serializer.serialize_str(core::str::from_utf8(text).map_err(S::Error::custom)?)
+        self.serialize(serializer)
     }
 
     fn read<'de, D: Deserializer<'de>>(deserializer: D) -> Result<Self, D::Error> {
@@ -150,12 +124,6 @@ stored_size! { Bit AdjustedBit }
 /// A field of a collection, or a reference to it, with the traits by which the collection is written and read.
 struct Element<T, W>(T, PhantomData<W>);
 
-impl<T, W> Element<T, W> {
-    fn of(field: T) -> Self {
-        Element(field, PhantomData)
-    }
-}
-
 impl<T: Field<W>, W> Serialize for Element<&T, W> {
     fn serialize<S: Serializer>(&self, serializer: S) -> Result<S::Ok, S::Error> {
         self.0.write(serializer)
@@ -164,18 +132,17 @@ impl<T: Field<W>, W> Serialize for Element<&T, W> {
 
 impl<'de, T: Field<W>, W> Deserialize<'de> for Element<T, W> {
     fn deserialize<D: Deserializer<'de>>(deserializer: D) -> Result<Self, D::Error> {
-        T::read(deserializer).map(Element::of)
+        Ok(Element(T::read(deserializer)?, PhantomData))
     }
 }
 
 impl<T: Field<W>, W> Field<W> for Option<T> {
     fn write<S: Serializer>(&self, serializer: S) -> Result<S::Ok, S::Error> {
-        self.as_ref().map(Element::of).serialize(serializer)
+        self.as_ref().map(|field| Element(field, PhantomData)).serialize(serializer)
     }
 
     fn read<'de, D: Deserializer<'de>>(deserializer: D) -> Result<Self, D::Error> {
-        let read = Option::<Element<T, W>>::deserialize(deserializer)?;
-        Ok(read.map(|element| element.0))
+        Ok(Option::<Element<T, W>>::deserialize(deserializer)?.map(|element| element.0))
     }
 }
 
@@ -184,7 +151,7 @@ impl<T: Field<W>, W> Field<W> for Option<T> {
 #[cfg(feature = "std")]
 mod collections {
     use core::fmt::{self, Formatter};
-    use core::hash::{BuildHasher, Hash};
+    use core::hash::Hash;
     use std::collections::{BTreeMap, HashMap};
     use std::vec::Vec;
 
@@ -232,7 +199,7 @@ mod collections {
 
     impl<T: Field<W>, W> Field<W> for Vec<T> {
         fn write<S: Serializer>(&self, serializer: S) -> Result<S::Ok, S::Error> {
-            serializer.collect_seq(self.iter().map(Element::of))
+            serializer.collect_seq(self.iter().map(|field| Element(field, PhantomData)))
         }
 
         fn read<'de, D: Deserializer<'de>>(deserializer: D) -> Result<Self, D::Error> {
@@ -242,13 +209,10 @@ mod collections {
 
     /// Defines the traits of a map, whose keys are written and read by their own.
     macro_rules! stored_map {
-        ($Map:ident <K, T $(, $H:ident)?> $Key:ident $(+ $More:ident)?) => {
-            impl<K, T: Field<W>, W $(, $H: BuildHasher + Default)?> Field<W> for $Map<K, T $(, $H)?>
-            where
-                K: Serialize + DeserializeOwned + $Key $(+ $More)?,
-            {
+        ($Map:ident $Key:ident $(+ $More:ident)?) => {
+            impl<K: Serialize + DeserializeOwned + $Key $(+ $More)?, T: Field<W>, W> Field<W> for $Map<K, T> {
                 fn write<S: Serializer>(&self, serializer: S) -> Result<S::Ok, S::Error> {
-                    serializer.collect_map(self.iter().map(|(key, field)| (key, Element::of(field))))
+                    serializer.collect_map(self.iter().map(|(key, field)| (key, Element(field, PhantomData))))
                 }
 
                 fn read<'de, D: Deserializer<'de>>(deserializer: D) -> Result<Self, D::Error> {
@@ -258,6 +222,6 @@ mod collections {
         };
     }
 
-    stored_map! { BTreeMap<K, T> Ord }
-    stored_map! { HashMap<K, T, H> Eq + Hash }
+    stored_map! { BTreeMap Ord }
+    stored_map! { HashMap Eq + Hash }
 }

@@ -36,7 +36,7 @@ def _reject_large(column: Column, texts: Any, bits: bool) -> None:
 
 
 def _digits(row: int, item: Any, errors: str) -> Any:
-    """Returns a text or a null as it is, a whole number as its digits, and what is neither as a null, or raises."""
+    """Returns a text as it is, a whole number as its digits, and a null, or with "coerce" all else, as `None`."""
     if isinstance(item, (float, numpy.floating)) and (number := float(item)).is_integer() and abs(number) < 2**53:
         item = int(number)  # exact: pandas makes floats of integers beside a null
     if isinstance(item, (int, numpy.integer)) and not isinstance(item, bool):
