@@ -19,6 +19,7 @@ axioms Env heap rattle_alloc rattle_realloc rattle_dealloc rattle_arg rattle_err
 rattle_env_at lseek getcwd isatty ethtool SHORTER_PROOFS.md mul_8 div_8 rocket schemars ctypes REINDEX _in
 get_unchecked compiler_builtins crates/quota/src/main.rt crates/byte_unit_cli/out/byte_unit_cli /usr/local/lib
 /usr/local crates/byte_unit_lines/out/byte_unit_lines lib/sqlite3/byte_unit.so target/release/libbyte_unit.a
+FromParam FromFormField
 """.split())
 C_HEADER, C_EXAMPLE = "bindings/c/byte_unit.h", "bindings/c/examples/example.c"
 DEFINITION, RATTLE = "crates/byte_unit_c/specs/Version.antt", "crates/byte_unit_c/src/version.rt"
