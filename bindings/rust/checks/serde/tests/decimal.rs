@@ -23,7 +23,7 @@ fn others_are_errors() {
     assert_eq!(Decimal::try_from(-Signed::ZERO), Ok(Decimal::ZERO));
     assert_eq!(Decimal::try_from(Signed::NEGATIVE_ONE), Err(ExceededBoundsError));
     let most = (1 << 112) - 1;
-    for (whole, fraction) in [(1 << 96, 0), (most, 0), (most, 10u128.pow(28) - 1), (1 << 95, 1)] {
+    for (whole, fraction) in [(1 << 96, 0), (most, 0), (most, 10u128.pow(28) - 1), (1 << 100, 1), (1 << 95, 1)] {
         assert_eq!(Signed::try_from(Decimal::new(whole, fraction).unwrap()), Err(ExceededBoundsError));
     }
 }
