@@ -62,11 +62,15 @@ class ToSizes(unittest.TestCase):
                 self.assertEqual(to_sizes(pandas.Series(items, dtype=dtype), errors=errors).tolist(), wanted)
         mixed = pandas.Series(["1 KB", -1, 10**30, "x", object(), numpy.datetime64("NaT"), "18 EB", 2**63, 5])
         self.assertEqual(to_sizes(mixed, errors="coerce").tolist(), [1000] + [pandas.NA] * 7 + [5])
+        large = pandas.Series([10**5000, -(10**5000)], dtype=object)
+        self.assertTrue(to_sizes(large, errors="coerce").isna().all())
         self.assertEqual(to_sizes(mixed, errors="coerce", overflow="saturate").tolist()[6:], [2**63 - 1] * 2 + [5])
         with self.assertRaisesRegex(SizeError, r"^texts\[1\]: '-1' is not a size: the character '-' is not a number"):
             to_sizes(mixed[:4])
         with self.assertRaisesRegex(ByteUnitError, r"^texts\[1\]: '9223372036854775808' is 9223372036854775808 bytes"):
             to_sizes(pandas.Series(["1", 2**63]))
+        with self.assertRaisesRegex(SizeError, r"^texts\[0\]: '10{30}' is not a size: the value"):
+            to_sizes(pandas.Series([10**30, "1"]))
         with self.assertRaises(TypeError):
             to_sizes(mixed, bits=1)
 

@@ -15,7 +15,7 @@ from typing import Any, Literal
 import numpy
 import pandas  # type: ignore[import]
 
-from . import ByteUnitError, Column, adjusted_text, approximate_text, parse_many, text
+from . import SIZE_LIMIT, ByteUnitError, Column, adjusted_text, approximate_text, parse_many, text
 from ._errors import quoted
 from ._native import first_large
 
@@ -40,7 +40,8 @@ def _digits(row: int, item: Any, errors: str) -> Any:
     if isinstance(item, (float, numpy.floating)) and (number := float(item)).is_integer() and abs(number) < 2**53:
         item = int(number)  # exact: pandas makes floats of integers beside a null
     if isinstance(item, (int, numpy.integer)) and not isinstance(item, bool):
-        return str(item)
+        # Python makes no text of an int with too many digits.
+        return str(item) if errors == "raise" or -SIZE_LIMIT < item < SIZE_LIMIT else None
     if isinstance(item, (str, bytes)):
         return item
     if errors == "coerce" or (pandas.api.types.is_scalar(item) and pandas.isna(item)):
