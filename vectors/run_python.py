@@ -37,6 +37,15 @@ def position(of, given):
     return "none"
 
 
+def hint(given):
+    """Returns the hint for a text, if it is rejected and has one."""
+    try:
+        byte_unit.parse(given)
+    except byte_unit.SizeError as error:
+        return f'"{error.hint}"' if error.hint else "none"
+    return "none"
+
+
 def says(given, **how):
     """Returns the message of a text without its last words. If the error has a position, these have to be the number of
     the character there, or to say that only white space follows."""
@@ -68,6 +77,10 @@ def answer(words, given):
     bits, uncased, either_kind = "bit" in words[1:2], "uncased" in words, words[2:3] == ["any"]
     if words[0] in ("parse", "parse_binary"):
         return byte_unit.parse(given, bits=bits, ignore_case=uncased, binary=words[0] == "parse_binary")
+    if words[0] == "words":
+        return byte_unit.parse(given, bits=bits, ignore_case=uncased, binary=words[2] == "binary", words=True)
+    if words[0] == "hint":
+        return hint(given)
     if words[0] == "position":
         return position(words[1], given)
     if words[0] == "unit":

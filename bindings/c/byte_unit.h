@@ -20,8 +20,8 @@
  *
  * Callers by a foreign function interface: a `static inline` call is no symbol of the library. The symbol is the name
  * with `_to` added, and takes the length of each array after its pointer: byte_unit_parse_to(text, len, flags, size,
- * error, error_len), where error_len is 1, or 0 for no error. With BYTE_UNIT_BINARY_PREFIXES byte_unit_parse calls
- * byte_unit_parse_binary_to.
+ * error, error_len), where error_len is 1, or 0 for no error. With BYTE_UNIT_WORDS byte_unit_parse calls
+ * byte_unit_parse_words_to, and else with BYTE_UNIT_BINARY_PREFIXES byte_unit_parse_binary_to.
  */
 #ifndef BYTE_UNIT_H
 #define BYTE_UNIT_H
@@ -62,11 +62,12 @@ typedef struct byte_unit_decimal {
 /* Flags. A flags word is the sum of its flags. Each call lists the flags that it knows; a call with any other is
  * rejected. */
 enum {
-    BYTE_UNIT_BYTES = 0,          /* sizes are in bytes: the default */
-    BYTE_UNIT_BITS = 1,           /* sizes are in bits */
-    BYTE_UNIT_IGNORE_CASE = 2,    /* parsing: the suffix `b` means bytes too */
-    BYTE_UNIT_EITHER_KIND = 4,    /* choice of a unit: from the units of bytes and of bits */
-    BYTE_UNIT_BINARY_PREFIXES = 8 /* parsing: `K` and `KB` are by 1024, as `Ki` and `KiB` are, up to `R` and `RB` */
+    BYTE_UNIT_BYTES = 0,           /* sizes are in bytes: the default */
+    BYTE_UNIT_BITS = 1,            /* sizes are in bits */
+    BYTE_UNIT_IGNORE_CASE = 2,     /* parsing: the suffix `b` means bytes too */
+    BYTE_UNIT_EITHER_KIND = 4,     /* choice of a unit: from the units of bytes and of bits */
+    BYTE_UNIT_BINARY_PREFIXES = 8, /* parsing: `K` and `KB` are by 1024, as `Ki` and `KiB` are, up to `R` and `RB` */
+    BYTE_UNIT_WORDS = 16           /* parsing: words for units are read too, as in `5 bytes` and `10 MegaBytes` */
 };
 
 /* A format spec, with the fields of a format spec of the Rust crate. If every field is zero, it is `{}`: digits
@@ -157,6 +158,8 @@ uint32_t byte_unit_parse_to(const char *text, size_t len, uint32_t flags, byte_u
                             byte_unit_error *error, size_t error_len);
 uint32_t byte_unit_parse_binary_to(const char *text, size_t len, uint32_t flags, byte_unit_number *size,
                                    byte_unit_error *error, size_t error_len);
+uint32_t byte_unit_parse_words_to(const char *text, size_t len, uint32_t flags, byte_unit_number *size,
+                                  byte_unit_error *error, size_t error_len);
 uint32_t byte_unit_parse_unit_to(const char *text, size_t len, uint32_t flags, uint32_t *unit, byte_unit_error *error,
                                  size_t error_len);
 uint32_t byte_unit_parse_many_to(const char *data, size_t data_len, const int64_t *offsets, size_t offsets_len,
@@ -169,13 +172,15 @@ uint32_t byte_unit_parse_many_32_to(const char *data, size_t data_len, const int
 /* Parses a size: the exact value, rounded up to a whole byte, or to a whole bit with BYTE_UNIT_BITS. Returns
  * BYTE_UNIT_OK and writes `size`, or returns the code of the error and writes its details to `error` if it is not
  * NULL. Writes nothing if it returns BYTE_UNIT_NOT_UTF8 or BYTE_UNIT_INVALID_ARGUMENT.
- * Flags: BITS, IGNORE_CASE (which has no effect with BITS), BINARY_PREFIXES. */
+ * Flags: BITS, IGNORE_CASE (which has no effect with BITS), BINARY_PREFIXES, WORDS. */
 static inline uint32_t byte_unit_parse(const char *text, size_t len, uint32_t flags, byte_unit_number *size,
                                        byte_unit_error *error)
 {
-    return flags & BYTE_UNIT_BINARY_PREFIXES
-               ? byte_unit_parse_binary_to(text, len, flags, size, error, error ? 1 : 0)
-               : byte_unit_parse_to(text, len, flags, size, error, error ? 1 : 0);
+    return flags < BYTE_UNIT_BINARY_PREFIXES
+               ? byte_unit_parse_to(text, len, flags, size, error, error ? 1 : 0)
+           : flags & BYTE_UNIT_WORDS
+               ? byte_unit_parse_words_to(text, len, flags, size, error, error ? 1 : 0)
+               : byte_unit_parse_binary_to(text, len, flags, size, error, error ? 1 : 0);
 }
 
 /* Parses a unit by its name or another of its spellings: `KiB`, `kib`, `K`, ` MBits `, and the empty string for B.
@@ -193,7 +198,7 @@ static inline uint32_t byte_unit_parse_unit(const char *text, size_t len, uint32
  * may be NULL. Returns BYTE_UNIT_OK, and writes the code of each text to `codes` and its size to `sizes`, 0 there if
  * it has none. Returns BYTE_UNIT_INVALID_ARGUMENT and writes nothing if a flag is unknown, an offset is negative,
  * less than the one before it or greater than `data_len`.
- * Flags: BITS, IGNORE_CASE, BINARY_PREFIXES. */
+ * Flags: BITS, IGNORE_CASE, BINARY_PREFIXES, WORDS. */
 static inline uint32_t byte_unit_parse_many(const char *data, size_t data_len, const int64_t *offsets, size_t count,
                                             uint32_t flags, byte_unit_number *sizes, uint8_t *codes)
 {
@@ -213,7 +218,8 @@ static inline uint32_t byte_unit_parse_many_32(const char *data, size_t data_len
  * rejects: up to there the string, without the white space at its ends, begins a size, and with that character it
  * begins none. If it ends too early, the index is that of its end, before white space there; of white space alone, its
  * length. The index is the same with all flags, and is the `position` of the error of byte_unit_parse. Returns false,
- * and writes nothing, if the string is a size, if only its size is 10^30 or more, or if the bytes are not UTF-8. */
+ * and writes nothing, if the string is a size without words, if only its size is 10^30 or more, or if the bytes are not
+ * UTF-8. */
 bool byte_unit_error_position(const char *text, size_t len, size_t *position);
 
 /* The same for a string that byte_unit_parse_unit rejects, and for its error. */
@@ -228,8 +234,16 @@ bool byte_unit_unit_error_position(const char *text, size_t len, size_t *positio
  * as `1.`, the message ends with `(at the end of the text)`; it has neither if the size is 10^30 or more, if the bytes
  * are not UTF-8, or if a flag is unknown. Returns 0 if and only if all flags are known and the string represents a size: an
  * unknown flag has a message too.
- * Flags: BITS, IGNORE_CASE, BINARY_PREFIXES. */
+ * Flags: BITS, IGNORE_CASE, BINARY_PREFIXES, WORDS. */
 size_t byte_unit_explain(const char *text, size_t len, uint32_t flags, char *out, size_t out_len);
+
+/* A buffer length that fits what byte_unit_hint writes. */
+#define BYTE_UNIT_HINT_SIZE 64
+
+/* Writes a hint for a string that byte_unit_parse rejects: how the size that was meant is written. For `5 bytes` it is
+ * `write 'B', or read it with the option 'words'`, and for `1,024` `digits are not grouped, and the point is '.'`.
+ * Returns 0 if the string is a size without words, if it has no hint, or if the bytes are not UTF-8. */
+size_t byte_unit_hint(const char *text, size_t len, char *out, size_t out_len);
 
 /* Writes the error message for a string that byte_unit_parse_unit rejects, at most 256 bytes of UTF-8. It ends with
  * such words unless the bytes are not UTF-8 or a flag is unknown. Returns 0 if and only if all flags are known and

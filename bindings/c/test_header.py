@@ -56,16 +56,18 @@ def in_c(name, kind):
 
 
 def calls_in_c(declared):
-    """Yields the call of a function in C, and the inline call of one in `_to`: byte_unit_parse's calls two."""
+    """Yields the call of a function in C, and the inline call of one in `_to`: byte_unit_parse's calls three."""
     name, given, result = re.fullmatch(r"fn (\w+)\((.*)\) -> (\w+)", declared).groups()
     pairs = re.findall(r"(\w+): ([^,]+)", given)
     yield f"{TYPES[result]} {name}({', '.join(in_c(*pair) for pair in pairs) or 'void'});"
-    if name.endswith("_to") and not name.endswith("_binary_to"):
+    if name.endswith("_to") and not name.endswith(("_binary_to", "_words_to")):
         own = ["size_t count" if pair[0] == "offsets_len" else in_c(*pair) for pair in pairs
                if pair[0] not in PASSED or pair[0] == "offsets_len"]
         words = ", ".join(PASSED.get(parameter, parameter) for parameter, _ in pairs)
-        other = f"flags & BYTE_UNIT_BINARY_PREFIXES ? byte_unit_parse_binary_to({words}) : "
-        called = other * (name == "byte_unit_parse_to") + f"{name}({words})"
+        called = f"{name}({words})"
+        if name == "byte_unit_parse_to":
+            called = (f"flags < BYTE_UNIT_BINARY_PREFIXES ? {called} : flags & BYTE_UNIT_WORDS ? "
+                      f"byte_unit_parse_words_to({words}) : byte_unit_parse_binary_to({words})")
         yield f"static inline {TYPES[result]} {name[:-3]}({', '.join(own)}) {{ return {called}; }}"
 
 
@@ -99,6 +101,7 @@ def macros():
         "SIZE_LIMIT_INIT": "{ BYTE_UNIT_SIZE_LIMIT_LOW, BYTE_UNIT_SIZE_LIMIT_HIGH }",
         "NO_UNIT": {"u32::MAX": 2**32 - 1}[only(r"^pub const NO_UNIT: u32 = (.*?);", "units")],
         "BUFFER_SIZE": only(r"fn byte_unit_explain\(.*?\bresult ≤ (\d+)", "explain"),
+        "HINT_SIZE": only(r"fn byte_unit_hint\(.*?\bresult ≤ (\d+)", "hint"),
         "QUOTE_SIZE": only(r"fn byte_unit_quote\(.*?\bresult ≤ (\d+)", "explain"),
     }
 
@@ -151,7 +154,8 @@ WRONG = [
     ("uint32_t byte_unit_version(void);", ""),
     ("uint32_t byte_unit_version(void);", "uint32_t byte_unit_version(void);\nuint32_t byte_unit_release(void);"),
     ("parse_to(text, len, flags, size, error, error ? 1 : 0)", "parse_to(text, len, flags, size, error, 1)"),
-    ("flags & BYTE_UNIT_BINARY_PREFIXES", "flags & BYTE_UNIT_EITHER_KIND"),
+    ("flags < BYTE_UNIT_BINARY_PREFIXES", "flags < BYTE_UNIT_WORDS"),
+    ("flags & BYTE_UNIT_WORDS", "flags & BYTE_UNIT_BINARY_PREFIXES"),
     ("data_len, offsets, offsets ? count + 1 : 0, flags", "data_len, offsets, count, flags"),
     ("uint64_t low;\n    uint64_t high;", "uint64_t high;\n    uint64_t low;"),
     ("uint32_t width;", "int32_t width;"),

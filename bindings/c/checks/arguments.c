@@ -85,7 +85,8 @@ static void flags(uint32_t word)
 {
     static const int64_t offsets[] = { 0, 1 };
     bool parses_units = (word & ~(uint32_t)(BYTE_UNIT_BITS | BYTE_UNIT_IGNORE_CASE)) == 0;
-    bool parses = (word & ~(uint32_t)(BYTE_UNIT_BITS | BYTE_UNIT_IGNORE_CASE | BYTE_UNIT_BINARY_PREFIXES)) == 0;
+    bool parses = (word & ~(uint32_t)(BYTE_UNIT_BITS | BYTE_UNIT_IGNORE_CASE | BYTE_UNIT_BINARY_PREFIXES
+                                      | BYTE_UNIT_WORDS)) == 0;
     bool formats = (word & ~(uint32_t)BYTE_UNIT_BITS) == 0;
     bool chooses = (word & ~(uint32_t)(BYTE_UNIT_BITS | BYTE_UNIT_EITHER_KIND)) == 0;
     byte_unit_number size = { 7, 7 };
@@ -180,10 +181,36 @@ static void quotes(void)
     check("nothing", byte_unit_quote(NULL, 0, NULL, 0) == 0);
 }
 
+/* Words are read with their flag, beside the others; a hint fits BYTE_UNIT_HINT_SIZE, and tells what to write. */
+static void words_and_hints(void)
+{
+    static const char rate[] = "a size has no rate: leave out what it is per second";
+    static const char word[] = "write 'KB', or read it with the option 'words'";
+    const uint32_t binary = BYTE_UNIT_BINARY_PREFIXES | BYTE_UNIT_WORDS;
+    byte_unit_number size = { 7, 7 };
+    char out[BYTE_UNIT_HINT_SIZE];
+
+    check("a word", byte_unit_parse("5 kBytes", 8, BYTE_UNIT_WORDS, &size, NULL) == BYTE_UNIT_OK && size.low == 5000
+                        && size.high == 0);
+    check("a binary word", byte_unit_parse("5 kBytes", 8, binary, &size, NULL) == BYTE_UNIT_OK && size.low == 5120);
+    check("bits", byte_unit_parse("5 bytes", 7, BYTE_UNIT_BITS | BYTE_UNIT_WORDS, &size, NULL) == BYTE_UNIT_OK
+                      && size.low == 40);
+    check("no words", byte_unit_parse("5 bytes", 7, BYTE_UNIT_BINARY_PREFIXES, &size, NULL) == BYTE_UNIT_UNIT
+                          && size.low == 40);
+    check("no hint", byte_unit_hint("5 KB", 4, out, sizeof out) == 0 && byte_unit_hint("\xff", 1, out, sizeof out) == 0);
+    check("a hint", byte_unit_hint("5 kBytes", 8, out, sizeof out) == strlen(word)
+                        && memcmp(out, word, strlen(word)) == 0);
+    check("the longest hint", byte_unit_hint("1 Mbps", 6, out, sizeof out) == strlen(rate)
+                                  && memcmp(out, rate, strlen(rate)) == 0);
+    memset(out, 'x', sizeof out);
+    check("no room", byte_unit_hint("1 Mbps", 6, out, strlen(rate) - 1) == strlen(rate) && out[0] == 'x');
+}
+
 /* The position of an error is the same with all flags; the test vectors compare it with that of the call. */
 static void positions(void)
 {
-    static const uint32_t words[] = { 0, BYTE_UNIT_BITS, BYTE_UNIT_IGNORE_CASE, BYTE_UNIT_BINARY_PREFIXES };
+    static const uint32_t words[] = { 0, BYTE_UNIT_BITS, BYTE_UNIT_IGNORE_CASE, BYTE_UNIT_BINARY_PREFIXES,
+                                      BYTE_UNIT_WORDS };
     byte_unit_number size;
     byte_unit_error error;
 
@@ -277,13 +304,14 @@ static void many_offsets(void)
 int main(void)
 {
     specs();
-    /* All sums of the four flags and two unknown ones, and each other bit. */
+    /* All sums of the five flags and an unknown one, and each other bit. */
     for (uint32_t word = 0; word < 64; word++)
         flags(word);
     for (int bit = 6; bit < 32; bit++)
         flags(UINT32_C(1) << bit);
     nulls();
     quotes();
+    words_and_hints();
     positions();
     out_of_range();
     many_offsets();

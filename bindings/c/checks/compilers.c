@@ -19,17 +19,22 @@
 #include <sys/mman.h>
 #include <unistd.h>
 
+/* The flags of a call that parses sizes. */
+#define PARSING (BYTE_UNIT_BITS | BYTE_UNIT_IGNORE_CASE | BYTE_UNIT_BINARY_PREFIXES | BYTE_UNIT_WORDS)
+
 /* Each function, and what it returns if it succeeds or if it fails: what is counted. */
 #define FUNCTIONS(X)                                                                                                   \
     X(version, BYTE_UNIT_VERSION)                                                                                      \
     X(parse_to, BYTE_UNIT_OK)                                                                                          \
     X(parse_binary_to, BYTE_UNIT_OK)                                                                                   \
+    X(parse_words_to, BYTE_UNIT_OK)                                                                                    \
     X(parse_unit_to, BYTE_UNIT_OK)                                                                                     \
     X(parse_many_to, BYTE_UNIT_OK)                                                                                     \
     X(parse_many_32_to, BYTE_UNIT_OK)                                                                                  \
     X(error_position, false)                                                                                           \
     X(unit_error_position, false)                                                                                      \
     X(explain, 0)                                                                                                      \
+    X(hint, 0)                                                                                                         \
     X(explain_unit, 0)                                                                                                 \
     X(quote, 0)                                                                                                        \
     X(text, 0)                                                                                                         \
@@ -169,26 +174,32 @@ static void begin_out(size_t enough)
     begin(&out, out_len);
 }
 
-/* Parses the string as a size. The header chooses by a flag from the first two calls: each is made with the flags that it
- * has there, but for one in 16. */
+/* Parses the string as a size. The header chooses by two flags from the first three calls: each is made with the flags
+ * that it has there, but for one in 16. */
 static void parse_size(uint32_t word)
 {
-    const uint32_t binary = BYTE_UNIT_BINARY_PREFIXES;
+    const uint32_t binary = BYTE_UNIT_BINARY_PREFIXES, in_words = BYTE_UNIT_WORDS;
     size_t errors = !one_in(4);
 
-    flags = one_in(16) ? word : word & ~binary;
+    flags = one_in(16) ? word : word & ~(binary | in_words);
     begin(&number, sizeof(byte_unit_number));
     begin(&error, errors * sizeof(byte_unit_error));
     CALL(parse_to, text, given.len, flags, in(&number), in(&error), errors);
-    flags = one_in(16) ? word : word | binary;
+    flags = one_in(16) ? word : (word & ~in_words) | binary;
     begin(&number, sizeof(byte_unit_number));
     begin(&error, errors * sizeof(byte_unit_error));
     CALL(parse_binary_to, text, given.len, flags, in(&number), in(&error), errors);
+    flags = one_in(16) ? word : word | in_words;
+    begin(&number, sizeof(byte_unit_number));
+    begin(&error, errors * sizeof(byte_unit_error));
+    CALL(parse_words_to, text, given.len, flags, in(&number), in(&error), errors);
     begin(&position, sizeof(size_t));
     CALL(error_position, text, given.len, in(&position));
     flags = word;
     begin_out(BYTE_UNIT_BUFFER_SIZE);
     CALL(explain, text, given.len, flags, in(&out), out_len);
+    begin_out(BYTE_UNIT_HINT_SIZE);
+    CALL(hint, text, given.len, in(&out), out_len);
     begin_out(BYTE_UNIT_QUOTE_SIZE);
     CALL(quote, text, given.len, in(&out), out_len);
 }
@@ -278,7 +289,7 @@ static void parse_many(char *end, char *wide_end, char *narrow_end)
     for (size_t i = 0; i < offsets_len; i++)
         wide_offsets[i] = borders[i], narrow_offsets[i] = (int32_t)borders[i];
     put(&all, end);
-    flags = draw_flags(BYTE_UNIT_BITS | BYTE_UNIT_IGNORE_CASE | BYTE_UNIT_BINARY_PREFIXES);
+    flags = draw_flags(PARSING);
     begin_many(count, lengths);
     CALL(parse_many_to, text, all.len, offsets_len ? wide_offsets : NULL, offsets_len, flags, in(&sizes), lengths[0],
          in(&codes), lengths[1]);
@@ -341,7 +352,7 @@ int main(int argc, char **argv)
     for (unsigned long left = strtoul(argv[3], NULL, 10); left > 0; left--) {
         string one = draw_string(false);
         put(&one, end);
-        parse_size(draw_flags(BYTE_UNIT_BITS | BYTE_UNIT_IGNORE_CASE | BYTE_UNIT_BINARY_PREFIXES));
+        parse_size(draw_flags(PARSING));
         one = draw_string(true);
         put(&one, end);
         parse_unit(draw_flags(BYTE_UNIT_BITS | BYTE_UNIT_IGNORE_CASE));

@@ -92,7 +92,8 @@ static void append_unit(string *to)
 static void change(string *one)
 {
     static const char *const pieces[] = { "x", "-", "+", ",", ".", "0", "9", "e", "i", "I", "b", "B", "K", "k", "R",
-                                          " ", "_", "\x7f", "\xc3\xa9", "\xc3", "\xa9", "\xff", "\xc2\xa0", "\xc2\xad",
+                                          "byte", "s", "kilo", "ps", "/s", " ", "_", "\x7f", "\xc3\xa9", "\xc3",
+                                          "\xa9", "\xff", "\xc2\xa0", "\xc2\xad",
                                           "\xe2\x80\xae", "\xe2\x82", "\xed\xa0\x80", "\xf0\x9f\x98\x80",
                                           "\xf4\x90\x80\x80" };
     char any = (char)below(256);

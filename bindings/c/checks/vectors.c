@@ -130,7 +130,7 @@ static byte_unit_spec spec_of(const char *s)
     return spec;
 }
 
-/* Answers `parse KIND CASE TEXT`, and `parse_binary` by a flag. */
+/* Answers `parse KIND CASE TEXT`, and `parse_binary` and `words` by a flag. */
 static void answer_parse(uint32_t flags, const char *text)
 {
     byte_unit_number size;
@@ -140,6 +140,16 @@ static void answer_parse(uint32_t flags, const char *text)
         print_number(size);
     else
         print_error(code, &error, text, byte_unit_error_position);
+}
+
+/* Answers `hint TEXT`. */
+static void answer_hint(const char *text)
+{
+    size_t len = byte_unit_hint(text, strlen(text), out, sizeof out);
+    if (len)
+        printf("\"%.*s\"", (int)len, out);
+    else
+        printf("none");
 }
 
 /* Answers `unit CASE PREFER TEXT`. */
@@ -241,6 +251,11 @@ static void answer(char *record)
         answer_parse(bits | uncased, text);
     else if (!strcmp(words[0], "parse_binary"))
         answer_parse(bits | uncased | BYTE_UNIT_BINARY_PREFIXES, text);
+    else if (!strcmp(words[0], "words"))
+        answer_parse(bits | uncased | BYTE_UNIT_WORDS | (strcmp(words[2], "binary") ? 0 : BYTE_UNIT_BINARY_PREFIXES),
+                     text);
+    else if (!strcmp(words[0], "hint"))
+        answer_hint(text);
     else if (!strcmp(words[0], "position"))
         answer_position(words[1], text);
     else if (!strcmp(words[0], "unit"))

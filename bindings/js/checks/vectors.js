@@ -55,6 +55,16 @@ function messageOf(text, options) {
     }
 }
 
+/** Returns the hint for a text, if it is rejected and has one. */
+function hintOf(given) {
+    try {
+        byteUnit.parse(given);
+        return "none";
+    } catch (error) {
+        return error.hint ? `"${error.hint}"` : "none";
+    }
+}
+
 /** Answers `text KIND SIZE [in UNIT | by TYPE] SPEC`. */
 function textOf([, , size, ...more], bits) {
     if (more.length === 1)
@@ -72,6 +82,8 @@ function answer(words, given) {
     switch (words[0]) {
         case "parse": return byteUnit.parse(given, { bits, ignoreCase });
         case "parse_binary": return byteUnit.parse(given, { bits, ignoreCase, binary: true });
+        case "words": return byteUnit.parse(given, { bits, ignoreCase, binary: words[2] === "binary", words: true });
+        case "hint": return hintOf(given);
         case "position": return positionOf(words[1], given);
         case "unit": return byteUnit.parseUnit(given, { bits: words[2] === "bits", ignoreCase });
         case "says": return `"${messageOf(given, { bits, ignoreCase })}"`;

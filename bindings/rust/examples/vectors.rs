@@ -5,7 +5,8 @@ use std::io::{self, BufRead, BufWriter, Write};
 use std::str;
 
 use byte_unit::{
-    Align, Bit, Byte, Decimal, FormatSpec, Needed, ParseError, Sign, Unit, UnitParseError, UnitType, ValueParseError,
+    Align, Bit, Byte, Decimal, FormatSpec, Needed, ParseError, ParseSpec, Sign, Unit, UnitParseError, UnitType,
+    ValueParseError, hint_of,
 };
 
 /// Returns the name of a unit's error and its fields, as the vectors have it.
@@ -151,6 +152,11 @@ fn answer(words: &[&str], text: &str) -> String {
         "parse_binary" => {
             number_by!(in_bits, parse_str_binary(text), uncased).map_or_else(error_of, |size| size.to_string())
         }
+        "words" => {
+            let spec = ParseSpec { ignore_case: uncased, binary: words[2] == "binary", words: true, ..ParseSpec::BYTES };
+            number_by!(in_bits, parse_str_as(text, spec)).map_or_else(error_of, |size| size.to_string())
+        }
+        "hint" => or_none(hint_of(text).map(|hint| format!("\"{hint}\""))),
         "position" => or_none(position(words[1], text)),
         "make_in" => or_none(number_by!(in_bits, from_u128_with_unit(words[2].parse().unwrap(), unit_of(words[3])))),
         "make_decimal" => or_none(number_by!(in_bits, from_decimal_with_unit(decimal_of(words[2]), unit_of(words[3])))),

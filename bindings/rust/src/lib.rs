@@ -36,7 +36,8 @@
 //! |---|---|
 //! | parse a string | `text.parse()`, [`Byte::parse_str`]; [`Byte::parse_str_binary`] if `K` means 1024, as in `10m` |
 //! | parse what may not be UTF-8 | [`Byte::parse_bytes`] |
-//! | tell where a string is wrong | [`Byte::error_position`] |
+//! | parse a size in words, such as `5 bytes` | [`Byte::parse_str_as`], as a [`ParseSpec`] says |
+//! | tell where a string is wrong, and what is meant | [`Byte::error_position`], [`hint_of`] |
 //! | convert from a number | [`Byte::from_u64`], [`Byte::from_u128`], [`Byte::from_u64_with_unit`], [`Byte::from_f64`] |
 //! | convert to a number | [`Byte::as_u64`], [`Byte::as_u64_checked`], [`Byte::as_u128`] |
 //! | format exactly | `{:#}` |
@@ -111,7 +112,9 @@ pub use core::num::TryFromIntError;
 
 pub use errors::{BuffersError, InexactFloatError, Needed, RowError};
 pub use many::Offset;
-pub use rendered::base::{ExceededBoundsError, ParseError, Unit, UnitParseError, ValueParseError};
+pub use rendered::base::{
+    ExceededBoundsError, Hint, Kind, ParseError, ParseSpec, Unit, UnitParseError, ValueParseError, hint_of,
+};
 pub use rendered::bit::{AdjustedBit, Bit};
 pub use rendered::byte::{AdjustedByte, Byte};
 pub use rendered::choice::UnitType;

@@ -5,7 +5,8 @@ use std::hash::{DefaultHasher, Hash, Hasher};
 use std::panic::catch_unwind;
 
 use byte_unit::{
-    AdjustedBit, AdjustedByte, Align, Bit, Byte, Decimal, FormatSpec, Sign, Unit, UnitType, ValueParseError,
+    AdjustedBit, AdjustedByte, Align, Bit, Byte, Decimal, FormatSpec, Kind, ParseSpec, Sign, Unit, UnitType,
+    ValueParseError, hint_of,
 };
 
 /// How often each of the calls is made: there are more than 100 of them.
@@ -91,6 +92,14 @@ impl Random {
         self.of(&[UnitType::Binary, UnitType::Decimal, UnitType::Both])
     }
 
+    fn kind(&mut self) -> Kind {
+        self.of(&[Kind::Byte, Kind::Bit])
+    }
+
+    fn reading(&mut self) -> ParseSpec {
+        ParseSpec { kind: self.kind(), ignore_case: self.bool(), binary: self.bool(), words: self.bool() }
+    }
+
     /// Returns a width or a precision, which is seldom a long one.
     fn columns(&mut self) -> u16 {
         let long = if self.below(500) == 0 { u16::MAX } else { 95 };
@@ -118,7 +127,7 @@ impl Random {
         let pieces = [
             "", " ", "0", "1", "7", "999", "1024", ".", ".5", "K", "Ki", "MiB", "b", "B", "bit", "bits", "R", "RiB",
             "+", "-", "e9", "é", "\u{a0}", "\0", "\u{10ffff}", "00000000", "12345678", "0000000000000000000000000001",
-            "5192296858534827628530496329220095", "bI",
+            "5192296858534827628530496329220095", "bI", "byte", "s", "kilo", "gig", "/s", "ps", ",", "'",
         ];
         (0..self.below(6)).map(|_| self.of(&pieces)).collect()
     }
@@ -188,6 +197,7 @@ macro_rules! calls_of_size {
             from_decimal: $Size::from_decimal(r.decimal()),
             from_decimal_with_unit: $Size::from_decimal_with_unit(r.decimal(), r.unit()),
             parse_str: $Size::parse_str(r.text() $(, r.$ignore_case())?),
+            parse_str_as: $Size::parse_str_as(&r.text(), r.reading()),
             parse_str_binary: $Size::parse_str_binary(r.text() $(, r.$ignore_case())?),
             parse_bytes: $Size::parse_bytes(&r.bytes() $(, r.$ignore_case())?),
             parse_bytes_binary: $Size::parse_bytes_binary(&r.bytes() $(, r.$ignore_case())?),
@@ -268,6 +278,13 @@ fn other_calls() -> Calls {
             let places = r.of(&[0, 1, 27, 28, 29, u32::MAX]);
             Decimal::from_u128_with_scale(r.number(), places)
         },
+        ignoring_case: r.reading().ignoring_case(r.bool()),
+        of_kind: r.reading().of_kind(r.kind()),
+        reading_words: r.reading().reading_words(r.bool()),
+        unit_meant: r.reading().unit_meant(r.unit()),
+        flags: r.reading().flags(),
+        bits: r.kind().bits(),
+        parts: hint_of(&r.text()).map(|hint| (hint.parts(), hint.to_string())),
         whole: r.decimal().whole(),
         fraction: r.decimal().fraction(),
         places: r.decimal().places(),

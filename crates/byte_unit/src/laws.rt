@@ -14,6 +14,7 @@ pub use byte_unit_base::laws::sizes::{
     greater_numbers_give_no_smaller_sizes, texts_are_accepted_or_refused,
 };
 pub use byte_unit_base::laws::versions::current_extends_old;
+pub use byte_unit_base::laws::words::words_change_no_accepted_text;
 pub use byte_unit_bit::laws::{bit_bounds, bit_constant};
 pub use byte_unit_byte::laws::{byte_bounds, byte_constant};
 pub use byte_unit_choice::laws::{

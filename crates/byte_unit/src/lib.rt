@@ -21,8 +21,8 @@ mod unit_json;
 
 pub use byte_unit_base::size::parse_line;
 pub use byte_unit_base::{
-    ExceededBoundsError, JsonSizeError, Kind, ParseError, ParseSpec, Unit, UnitParseError,
-    ValueParseError, read_size,
+    ExceededBoundsError, Hint, JsonSizeError, Kind, ParseError, ParseSpec, Unit, UnitParseError,
+    ValueParseError, hint_of, read_size,
 };
 pub use byte_unit_bit::{AdjustedBit, Bit};
 pub use byte_unit_byte::{AdjustedByte, Byte};

@@ -4,7 +4,8 @@
 -- error, `f.0`, and that the text has it, `f.1`; the last part is the same of the other text. `some` is the text up to
 -- the end of its decimal prefix, its suffix, and that they are such.
 use Rattle.std.proofs.Common.{◌≡◌, ℕ, Bool, true, false, ◌⊎◌, inl, inr, ⊎_elim, List, [], ◌∷◌, ◌++◌, refl, replicate}
-use Rattle.std.proofs.Common.{sym, ap, subst, ◌∙◌, arith, append_assoc, nat_lt}
+use Rattle.std.proofs.Common.{sym, ap, subst, ◌∙◌, arith, append_assoc, nat_lt, None, Result}
+use Rattle.byte_unit_base.specs.Reading.Words.{or_in_words}
 use Rattle.std.proofs.lemmas.Bool.{cond_both}
 use Rattle.std.proofs.lemmas.Bool.Decides.{nat_tests}
 use Rattle.byte_unit_base.specs.Grammar.Shape.{Shape, shape}
@@ -136,11 +137,13 @@ same_parsed kind ignore_case bytes other h =
     let flags = flags_for kind ignore_case in
     let of_bytes = parsed_numbers_are_represented flags bytes in
     let of_other = parsed_numbers_are_represented flags other in
+    let plain_size : Bool → Result (ℕ × Shape) Fault → Result ℕ Fault =
+    λ binary r. size_of_parsed (parse_spec kind ignore_case binary) (or_in_words None r) in
     ⊎_elim
-    (λ m. ap (size_of_parsed (parse_spec kind ignore_case true)) ((of_bytes.is_meaning m.0).1 m.1)
-    ∙ sym (ap (size_of_parsed (parse_spec kind ignore_case false)) ((of_other.is_meaning (m.0.0, binary_of m.0.1)).1 m.2)))
-    (λ f. ap (size_of_parsed (parse_spec kind ignore_case true)) ((of_bytes.is_fault f.0).1 f.1)
-    ∙ sym (ap (size_of_parsed (parse_spec kind ignore_case false)) ((of_other.is_fault f.0).1 f.2)))
+    (λ m. ap (plain_size true) ((of_bytes.is_meaning m.0).1 m.1)
+    ∙ sym (ap (plain_size false) ((of_other.is_meaning (m.0.0, binary_of m.0.1)).1 m.2)))
+    (λ f. ap (plain_size true) ((of_bytes.is_fault f.0).1 f.1)
+    ∙ sym (ap (plain_size false) ((of_other.is_fault f.0).1 f.2)))
     (same_answer flags (trim_of bytes) (trim_of other) h)
 
 -- the binary reading of an input is the reading of the input with an `i` after its decimal prefix

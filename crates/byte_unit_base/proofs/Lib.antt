@@ -30,5 +30,6 @@ pub mod UnitLetters
 pub mod NumberEnds
 pub mod UnitEnds
 pub mod Positions
+pub mod WordTexts
 pub mod PutTexts
 pub mod QuotedTexts

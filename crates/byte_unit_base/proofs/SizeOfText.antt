@@ -2,7 +2,7 @@
 --
 -- Here `found` is a number, `found.0`, and its unit, `found.1`. Of a size, `size.0` is that it is this number of the
 -- unit that is meant, rounded up, and `size.1` that it is below the limit.
-use Rattle.std.proofs.Common.{ℕ, List, Some, None, Ok, Err, sym, refl, inl, inr, IsUtf8}
+use Rattle.std.proofs.Common.{◌≡◌, ℕ, List, Some, None, Ok, Err, sym, refl, inl, inr, IsUtf8}
 use Rattle.std.proofs.lemmas.Str.{IsUtf8-from_ascii}
 use Rattle.byte_unit_base.specs.Grammar.Spelling.{Flags}
 use Rattle.byte_unit_base.specs.Grammar.Version.{current}
@@ -16,10 +16,11 @@ use Rattle.byte_unit_base.specs.Sizes.OrNone.{IsSizeOrNone}
 use Rattle.byte_unit_base.specs.Sizes.Kinds.{flags_for}
 use Rattle.byte_unit_base.specs.Reading.ParseSpec.{ParseSpec, unit_meant}
 use Rattle.byte_unit_base.specs.Reading.Results.{IsNumberReading, IsReadingAs}
-use Rattle.byte_unit_base.specs.Grammar.SizeText.{IsSizeText}
+use Rattle.byte_unit_base.specs.Grammar.SizeText.{IsSizeText, trim_of}
+use Rattle.byte_unit_base.specs.Reading.Words.{in_words}
 use Rattle.byte_unit_base.specs.Errors.Meaning.{size_fault}
 use Rattle.byte_unit_base.specs.Errors.Fault.{exceeded}
-use Rattle.byte_unit_base.specs.Sizes.Accepted.{IsAcceptedAs, IsRejectedAs}
+use Rattle.byte_unit_base.specs.Sizes.Accepted.{IsMeasureAs, IsAcceptedAs, IsRejectedAs}
 use Rattle.byte_unit_base.specs.Laws.Parsed.{GivesAnswer}
 use Rattle.byte_unit_base.specs.Reading.Parsed.{parsed_size_as, rounded_up}
 use Rattle.byte_unit_base.proofs.Computed.{rounded_up_is_least}
@@ -36,19 +37,19 @@ module _ (spec : ParseSpec) (bytes : List ℕ) where
 
   -- if the size of the number and unit is below the limit, it is the result
   pub reading_of_size : (found : ℕ × UnitName) (n : ℕ)
-      → IsNumberReading (flags_for spec.kind spec.ignore_case) bytes (Ok found)
+      → IsMeasureAs spec current bytes found.0 (shape_of found.1)
       → IsSizeOrNone (IsLeastOf spec.kind found.0 (unit_meant spec (shape_of found.1))) (Some n)
       → IsReadingAs spec bytes (Ok n)
   reading_of_size found n reading size =
       size_reading spec bytes (Ok n) (sym ((given.is_meaning n).1 record {
         number = found.0;
-        is_read = record { unit = shape_of found.1; is_size = reading.found; is_least = size.0 };
+        is_read = record { unit = shape_of found.1; is_size = reading; is_least = size.0 };
         below = size.1;
       }))
 
   -- if the size of the number and unit reaches the limit, the result is the error with the number
   pub reading_of_excess : (found : ℕ × UnitName)
-      → IsNumberReading (flags_for spec.kind spec.ignore_case) bytes (Ok found)
+      → IsMeasureAs spec current bytes found.0 (shape_of found.1)
       → IsSizeOrNone (IsLeastOf spec.kind found.0 (unit_meant spec (shape_of found.1))) None
       → IsReadingAs spec bytes (Err (Value (ExceededBounds found.0)))
   reading_of_excess found reading none =
@@ -59,16 +60,16 @@ module _ (spec : ParseSpec) (bytes : List ℕ) where
         refl,
         record {
           size = rounded_up spec.kind found.0 (unit_meant spec (shape_of found.1));
-          is_read = record { unit = shape_of found.1; is_size = reading.found; is_least = least };
+          is_read = record { unit = shape_of found.1; is_size = reading; is_least = least };
           above = none _ least;
         },
       ))))
 
-  -- the result if the input is not a number and a unit: its error
+  -- the result if the input is not a number and a unit, nor so in words: its error
   pub reading_of_fault : (error : ParseError) → IsNumberReading (flags_for spec.kind spec.ignore_case) bytes (Err error)
-      → IsReadingAs spec bytes (Err error)
-  reading_of_fault error reading = size_reading spec bytes (Err error)
-      (sym ((given.is_fault (size_fault error)).1 (inr reading.fault)))
+      → in_words spec (trim_of bytes) ≡ None → IsReadingAs spec bytes (Err error)
+  reading_of_fault error reading none = size_reading spec bytes (Err error)
+      (sym ((given.is_fault (size_fault error)).1 (inr (reading.fault, none))))
 
 -- bytes that are a number and a unit are UTF-8, and the same number and unit when trimmed
 pub bytes_number : (flags : Flags) (bytes : List ℕ) (number : ℕ) (unit : UnitName)

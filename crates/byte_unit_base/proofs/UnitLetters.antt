@@ -11,7 +11,8 @@ use Rattle.core.proofs.dec2flt.Eight.{bytes_of, bytes-drop, zeros_after}
 use lib.Lanes.{digits_l, number_l}
 use mir.Val.{bool_byte}
 use Rattle.byte_unit_base.specs.Grammar.Shape.{shape}
-use Rattle.byte_unit_base.specs.Reading.Ends.{first_eight, IsLineOf, IsLeadingUnit, letter_power, multiple_of, word_of}
+use Rattle.byte_unit_base.specs.Reading.Machines.{letter_power, multiple_of}
+use Rattle.byte_unit_base.specs.Reading.Ends.{first_eight, IsLineOf, IsLeadingUnit, word_of}
 use Rattle.byte_unit_base.specs.Reading.Ends.{bits_len, has_prefix}
 use Rattle.byte_unit_base.specs.Reading.Machines.{unit_step, multiple_step, multiple_shape, prefix_at, is_i, scan_of}
 use Rattle.byte_unit_base.specs.Reading.Machines.{start, Multiple, One, Decimal, Binary, Empty}

@@ -8,3 +8,4 @@ pub mod UnitErrorView
 pub mod Text
 pub mod Quoted
 pub mod PutAfter
+pub mod Hints

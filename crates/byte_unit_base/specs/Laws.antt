@@ -2,5 +2,6 @@
 pub mod Readers
 pub mod Sizes
 pub mod Binary
+pub mod Words
 pub mod Parsed
 pub mod Versions

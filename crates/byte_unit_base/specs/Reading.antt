@@ -2,6 +2,7 @@
 pub mod ParseSpec
 pub mod Line
 pub mod Machines
+pub mod Words
 pub mod Parsed
 pub mod Results
 pub mod Binary

@@ -4,3 +4,4 @@ pub mod binary;
 pub mod readers;
 pub mod sizes;
 pub mod versions;
+pub mod words;

@@ -7,6 +7,7 @@ pub use crate::errors::{
     ExceededBoundsError, JsonSizeError, LocatedError, Location, ParseError, UnitParseError,
     ValueParseError,
 };
+pub use crate::hint::{Hint, hint_of};
 pub use crate::kind::Kind;
 pub use crate::quoted::{MAX_QUOTE_LEN, Quoted, quote};
 pub use crate::read::{Measure, read_size, read_text};
@@ -15,8 +16,10 @@ pub use crate::stop::{Expected, NumberStop, Reason, Stop, UnitStop, error_at, lo
 pub use crate::unit::Unit;
 pub use crate::unit::parse::read_unit_text;
 pub use crate::unit::tables::{PREFIXES, prefix_letter, unit_at};
+pub use crate::words::measure_in_words;
 
 mod errors;
+mod hint;
 mod kind;
 pub mod laws;
 mod quoted;
@@ -25,3 +28,4 @@ pub mod size;
 mod spec;
 mod stop;
 mod unit;
+mod words;

@@ -1,9 +1,13 @@
 //! Sizes of either kind, as numbers below the limit: what the size types have in common.
 
-ghost use Rattle.std.specs.Prelude.{◌≡◌, ℕ, List, ◌+◌, ◌<◌, ◌≤◌, take, ◌*◌, SomeIff, IfSome, IfOk, IfErr, Ok};
+ghost use Rattle.std.specs.Prelude.{◌≡◌, ℕ, List, ◌+◌, ◌<◌, ◌≤◌, take, ◌*◌, SomeIff, IfSome, IfOk, IfErr, Some};
 ghost use Rattle.byte_unit_math.specs.Bounds.{size_limit};
-ghost use Rattle.byte_unit_base.specs.Sizes.Kinds.{bits_in, flags_for};
-ghost use Rattle.byte_unit_base.specs.Reading.Results.{IsNumberReading, IsReadingAs, IsBytesReadingAs};
+ghost use Rattle.byte_unit_base.specs.Sizes.Kinds.{bits_in};
+ghost use Rattle.byte_unit_base.specs.Reading.Results.{IsReadingAs, IsBytesReadingAs};
+ghost use Rattle.byte_unit_base.specs.Grammar.Version.{current};
+ghost use Rattle.byte_unit_base.specs.Grammar.Units.{shape_of};
+ghost use Rattle.byte_unit_base.specs.Sizes.Accepted.{IsMeasureAs};
+ghost use Rattle.std.specs.Str.{IsUtf8};
 ghost use Rattle.byte_unit_base.specs.Reading.Results.{without_location};
 ghost use Rattle.byte_unit_base.specs.Errors.Meaning.{size_fault};
 ghost use Rattle.byte_unit_base.specs.Errors.Expected.{expected_codes, named_in};
@@ -18,6 +22,7 @@ use crate::read::{
 };
 use crate::spec::{Flags, ParseSpec};
 use crate::stop::{Expected, error_at, expected_at, location_at};
+use crate::words::measure_in_words;
 use crate::{Kind, LocatedError, Location, ParseError, Unit, ValueParseError};
 use byte_unit_math::{Decimal, least_size};
 use std::str;
@@ -124,7 +129,10 @@ pub fn parse(s: &str, spec: ParseSpec) -> Result<u128, ParseError>
             },
             spec,
         ),
-        Err(error) => Err(error),
+        Err(error) => match measure_in_words(s.as_bytes(), spec) {
+            Some(found) => size_of(found, spec),
+            None => Err(error),
+        },
     }
 }
 
@@ -176,7 +184,10 @@ pub fn parse_line(bytes: &[u8], len: usize, spec: ParseSpec) -> Option<Result<u1
         Ok(found) => Some(size_of(found, spec)),
         Err(stop) => match next_in_line(line, stop.index) {
             // Returned here for the row `1.5 KiB` of lines in docs/SPEED.md.
-            Some(next) => return Some(Err(error_at(stop.reason, next, flags))),
+            Some(next) => match measure_in_words(line, spec) {
+                Some(found) => Some(size_of(found, spec)),
+                None => return Some(Err(error_at(stop.reason, next, flags))),
+            },
             None => parse_text(line, spec),
         },
     }
@@ -217,20 +228,36 @@ pub fn explain(bytes: &[u8], spec: ParseSpec) -> Option<Result<u128, LocatedErro
 {
     let flags = spec.flags();
     match read_text(bytes, flags) {
-        Some(Ok(found)) => match size_of(found, spec) {
-            Ok(size) => Some(Ok(size)),
-            Err(error) => Some(Err(LocatedError {
-                error,
-                expected: Expected::Nothing,
-                location: Location::Whole,
+        Some(Ok(found)) => Some(located_size(found, spec)),
+        Some(Err(stop)) => match measure_in_words(bytes, spec) {
+            Some(found) => Some(located_size(found, spec)),
+            None => Some(Err(LocatedError {
+                error: error_at(stop.reason, stop.next, flags),
+                expected: expected_at(stop.reason, stop.next, flags),
+                location: location_at(bytes, stop.index, stop.next),
             })),
         },
-        Some(Err(stop)) => Some(Err(LocatedError {
-            error: error_at(stop.reason, stop.next, flags),
-            expected: expected_at(stop.reason, stop.next, flags),
-            location: location_at(bytes, stop.index, stop.next),
-        })),
         None => None,
+    }
+}
+
+/// Returns what [`size_of`] does, with the location of its error, which is that of the whole string.
+#[inline(always)]
+fn located_size(found: Measure, spec: ParseSpec) -> Result<u128, LocatedError>
+    ensures reading { (bytes : List ℕ) → IsUtf8 bytes
+        → IsMeasureAs spec current bytes found.number (shape_of found.unit)
+        → IsBytesReadingAs spec bytes (without_location (Some result)) }
+    ensures location { (bytes : List ℕ)
+        → IfErr result (λ e. IsLocationOf (IsSizeLocation bytes) (size_fault e.error) e.location) }
+    ensures expected { IfErr result (λ e. expected_codes e.expected ≡ named_in (size_fault e.error)) }
+{
+    match size_of(found, spec) {
+        Ok(size) => Ok(size),
+        Err(error) => Err(LocatedError {
+            error,
+            expected: Expected::Nothing,
+            location: Location::Whole,
+        }),
     }
 }
 
@@ -271,7 +298,7 @@ pub fn error_position(s: &str) -> Option<usize>
 #[inline(always)]
 pub fn size_of(found: Measure, spec: ParseSpec) -> Result<u128, ParseError>
     ensures reading { (bytes : List ℕ)
-        → IsNumberReading (flags_for spec.kind spec.ignore_case) bytes (Ok (found.number, found.unit))
+        → IsMeasureAs spec current bytes found.number (shape_of found.unit)
         → IsReadingAs spec bytes result }
     ensures bound { IfOk result (λ n. n < size_limit) }
     ensures excess { IfErr result (λ error. error ≡ Value (ExceededBounds found.number)) }

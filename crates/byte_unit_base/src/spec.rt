@@ -2,7 +2,7 @@
 
 ghost use Rattle.std.specs.Prelude.{◌≡◌};
 ghost use Rattle.byte_unit_base.specs.Sizes.Kinds.{flags_for};
-ghost use Rattle.byte_unit_base.specs.Reading.ParseSpec.{parse_spec, unit_meant};
+ghost use Rattle.byte_unit_base.specs.Reading.ParseSpec.{parse_spec, unit_meant, with_words, in_kind};
 ghost use Rattle.byte_unit_base.specs.Grammar.Spelling.{flags_of};
 ghost use Rattle.byte_unit_base.specs.Grammar.Units.{shape_of};
 
@@ -24,6 +24,8 @@ pub struct ParseSpec {
     pub ignore_case: bool,
     /// Whether a decimal prefix means the binary one, so that `K` is 1024.
     pub binary: bool,
+    /// Whether words for units are read too, as in `5 bytes` and `10 MegaBytes`.
+    pub words: bool,
 }
 
 impl ParseSpec {
@@ -32,6 +34,7 @@ impl ParseSpec {
         kind: Kind::Byte,
         ignore_case: false,
         binary: false,
+        words: false,
     };
 
     /// A size in bytes, whose decimal prefixes mean binary ones.
@@ -60,12 +63,40 @@ impl ParseSpec {
     /// ```
     #[inline(always)]
     pub fn ignoring_case(self, ignore_case: bool) -> ParseSpec
-        ensures { result ≡ parse_spec self.kind ignore_case self.binary }
+        ensures { result ≡ with_words self.words (parse_spec self.kind ignore_case self.binary) }
     {
         ParseSpec {
             ignore_case,
             ..self
         }
+    }
+
+    /// Returns this reading, of sizes of a kind.
+    ///
+    /// # Examples
+    /// ```rust
+    /// assert_eq!(rt; ParseSpec::BINARY_BYTES.of_kind(Kind::Bit), ParseSpec::BINARY_BITS);
+    /// ```
+    #[inline(always)]
+    pub fn of_kind(self, kind: Kind) -> ParseSpec
+        ensures { result ≡ in_kind kind self }
+    {
+        ParseSpec { kind, ..self }
+    }
+
+    /// Returns this reading with words for units read too, or not.
+    ///
+    /// # Examples
+    /// ```rust
+    /// assert_eq!(rt; size::parse("5 kilobytes", ParseSpec::BYTES.reading_words(true))?, 5000);
+    /// assert_eq!(rt; size::parse("5 kilobytes", ParseSpec::BINARY_BYTES.reading_words(true))?, 5120);
+    /// assert!(rt; size::parse("5 kilobytes", ParseSpec::BYTES).is_err());
+    /// ```
+    #[inline(always)]
+    pub fn reading_words(self, words: bool) -> ParseSpec
+        ensures { result ≡ with_words words self }
+    {
+        ParseSpec { words, ..self }
     }
 
     /// Returns how the unit of the size is read. In sizes in bits case is significant.

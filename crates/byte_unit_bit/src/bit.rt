@@ -20,6 +20,7 @@ mod parse;
 mod position;
 mod text;
 mod units;
+mod words;
 
 pub use adjusted::AdjustedBit;
 

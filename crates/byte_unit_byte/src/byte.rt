@@ -19,6 +19,7 @@ mod parse;
 mod position;
 mod text;
 mod units;
+mod words;
 
 pub use adjusted::AdjustedByte;
 

@@ -1,8 +1,10 @@
 //! The flags words of the C API. A flags word is a sum of flags: 1 for sizes of bits (and else of bytes), 2 for parsing
-//! that ignores case, 4 for units of either kind, and 8 for parsing in which decimal prefixes mean binary ones.
+//! that ignores case, 4 for units of either kind, 8 for parsing in which decimal prefixes mean binary ones, and 16 for
+//! parsing that reads words for units.
 
 ghost use Rattle.std.specs.Prelude.{◌≡◌};
-ghost use Rattle.byte_unit_c.specs.Flags.{kind_at, parse_spec_at, binary_spec_at, any_spec_at, choice_flags_at};
+ghost use Rattle.byte_unit_c.specs.Flags.{kind_at, parse_spec_at, binary_spec_at, plain_spec_at, words_spec_at};
+ghost use Rattle.byte_unit_c.specs.Flags.{any_spec_at, choice_flags_at};
 
 use byte_unit_base::{Kind, ParseSpec};
 
@@ -20,6 +22,9 @@ const EITHER_KIND: u32 = 4;
 
 /// The flag of parsing in which decimal prefixes mean binary ones.
 const BINARY_PREFIXES: u32 = 8;
+
+/// The flag of parsing that reads words for units.
+const WORDS: u32 = 16;
 
 /// The decoded flags of a choice of a unit.
 #[derive(Clone, Copy)]
@@ -70,15 +75,39 @@ pub fn binary_spec_at(flags: u32) -> Option<ParseSpec>
     })
 }
 
-/// Returns how to parse, by a word with any of the flags of [`binary_spec_at`]. Returns `None` if the word has another
-/// flag.
-pub fn any_spec_at(flags: u32) -> Option<ParseSpec>
-    ensures { result ≡ any_spec_at flags }
+/// Returns how to parse without words, by a word with any of the flags of [`binary_spec_at`]. Returns `None` if the word
+/// has another flag.
+fn plain_spec_at(flags: u32) -> Option<ParseSpec>
+    ensures { result ≡ plain_spec_at flags }
 {
     if flags < BINARY_PREFIXES {
         parse_spec_at(flags)
     } else {
         binary_spec_at(flags)
+    }
+}
+
+/// Returns how to parse, by a word with the flag `WORDS` and, beside it, any of the flags of [`binary_spec_at`]. Returns
+/// `None` if the word does not have the flag `WORDS`, or has another flag.
+pub fn words_spec_at(flags: u32) -> Option<ParseSpec>
+    ensures { result ≡ words_spec_at flags }
+{
+    if flags < WORDS {
+        return None;
+    }
+    let spec = plain_spec_at(flags - WORDS)?;
+    Some(spec.reading_words(true))
+}
+
+/// Returns how to parse, by a word with any of the flags of [`words_spec_at`]. Returns `None` if the word has another
+/// flag.
+pub fn any_spec_at(flags: u32) -> Option<ParseSpec>
+    ensures { result ≡ any_spec_at flags }
+{
+    if flags < WORDS {
+        plain_spec_at(flags)
+    } else {
+        words_spec_at(flags)
     }
 }
 

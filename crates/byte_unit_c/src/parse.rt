@@ -1,11 +1,12 @@
 //! Parsing of sizes and of units.
 
-ghost use Rattle.std.specs.Prelude.{◌≡◌, ℕ, List, Option, Some, Result, Ok, IfSome, IfNone, MatchOption};
+ghost use Rattle.std.specs.Prelude.{◌≡◌, ℕ, List, Option, Some, Result, IfSome, IfNone, MatchOption};
 ghost use Rattle.std.specs.Str.{IsUtf8};
 ghost use Rattle.byte_unit_base.specs.Errors.Meaning.{value_fault};
-ghost use Rattle.byte_unit_base.specs.Sizes.Kinds.{flags_for};
 ghost use Rattle.byte_unit_base.specs.Reading.Ends.{IsUnitOrStop};
-ghost use Rattle.byte_unit_base.specs.Reading.Results.{IsNumberReading};
+ghost use Rattle.byte_unit_base.specs.Grammar.Units.{shape_of};
+ghost use Rattle.byte_unit_base.specs.Grammar.Version.{current};
+ghost use Rattle.byte_unit_base.specs.Sizes.Accepted.{IsMeasureAs};
 ghost use Rattle.byte_unit_base.specs.Grammar.Spelling.{flags_of};
 ghost use Rattle.byte_unit_base.specs.declared.errors.UnitParseError.{UnitParseError};
 ghost use Rattle.byte_unit_base.specs.declared.unit.Unit.{Unit as UnitName};
@@ -18,8 +19,8 @@ use crate::error::{Error, INVALID_ARGUMENT, NOT_UTF8, OK, UNIT, bytes_of, value_
 use crate::flags::parse_spec_at;
 use crate::values::Number;
 use byte_unit_base::{
-    Flags, Kind, Measure, ParseSpec, Reason, Stop, Unit, UnitStop, ValueParseError, read_text,
-    read_unit_text, size,
+    Flags, Kind, Measure, ParseSpec, Reason, Stop, Unit, UnitStop, ValueParseError,
+    measure_in_words, read_text, read_unit_text, size,
 };
 use std::str;
 
@@ -58,7 +59,10 @@ pub fn parse_as(text: &[u8], spec: ParseSpec, size: &mut Number, errors: &mut [E
     let flags = spec.flags();
     match read_text(text, flags) {
         Some(Ok(found)) => write_size(found, spec, size, errors),
-        Some(Err(stop)) => write_stop(stop, flags, errors),
+        Some(Err(stop)) => match measure_in_words(text, spec) {
+            Some(found) => write_size(found, spec, size, errors),
+            None => write_stop(stop, flags, errors),
+        },
         None => NOT_UTF8,
     }
 }
@@ -68,7 +72,7 @@ pub fn parse_as(text: &[u8], spec: ParseSpec, size: &mut Number, errors: &mut [E
 #[inline(always)]
 fn write_size(found: Measure, spec: ParseSpec, size: &mut Number, errors: &mut [Error]) -> u32
     ensures { (bytes : List ℕ) → IsUtf8 bytes
-        → IsNumberReading (flags_for spec.kind spec.ignore_case) bytes (Ok (found.number, found.unit))
+        → IsMeasureAs spec current bytes found.number (shape_of found.unit)
         → Parses spec bytes result size.old size.new errors.old errors.new }
 {
     let number = found.number;

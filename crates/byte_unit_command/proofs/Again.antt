@@ -8,7 +8,9 @@ use Rattle.byte_unit.specs.Choice.{IsRecoveredIn}
 use Rattle.byte_unit.specs.FormLaws.{SizeFormReadsBack, PlainFormReadsBack, SizeHasOneForm}
 use Rattle.byte_unit.specs.Forms.{IsText, places_of}
 use Rattle.byte_unit.specs.NamedSpecs.{plain_spec}
-use Rattle.byte_unit.specs.Reading.ParseSpec.{parse_spec}
+use Rattle.byte_unit.specs.Laws.Words.{WordsChangeNoAcceptedText}
+use Rattle.byte_unit.specs.Reading.ParseSpec.{parse_spec, with_words}
+use Rattle.byte_unit.specs.declared.ParseSpec.{ParseSpec}
 use Rattle.byte_unit.specs.Grammar.Shape.{Shape, shape}
 use Rattle.byte_unit.specs.Grammar.Units.{shape_of}
 use Rattle.byte_unit.specs.Grammar.Version.{current}
@@ -85,9 +87,15 @@ module _ (exact : SizeFormReadsBack) (digits : PlainFormReadsBack) (kind : Kind)
   form_is_read (NumberOf unit) reads binary text lossless same is_text = absurd lossless
   form_is_read (Largest unit_type) reads binary text lossless same is_text = absurd lossless
 
+-- a text that is accepted without words is accepted with them or without them
+accepted_too : WordsChangeNoAcceptedText → (words : Bool) (spec : ParseSpec) (text : List ℕ) (size : ℕ)
+    → IsAcceptedAs (with_words false spec) current text size → IsAcceptedAs (with_words words spec) current text size
+accepted_too law true spec text size at = law spec text size at
+accepted_too law false spec text size at = at
+
 -- a size formatted in a lossless form, without a width, is parsed as that size
-pub formatted_is_read : SizeFormReadsBack → PlainFormReadsBack → FormattedSizesAreRead
-formatted_is_read exact digits =
+pub formatted_is_read : SizeFormReadsBack → PlainFormReadsBack → WordsChangeNoAcceptedText → FormattedSizesAreRead
+formatted_is_read exact digits words =
     λ options others size text below lossless no_width same_kind same_suffix prefixes (form, is_form, formatted_is).
     let suffix = options.suffix.now in
     let formatted = formatted_is ∙ padded-none options.width options.align_left (form ++ suffix) no_width in
@@ -98,8 +106,9 @@ formatted_is_read exact digits =
     let at = form_is_read exact digits options.spec.kind options.precision size others.spec.ignore_case below options.form
     others.spec.binary options.spec.binary form lossless prefixes is_form in
     let text = without_suffix others.suffix.now text in
-    subst (λ reading. IsAcceptedAs reading current text size) (same_spec others.spec _ _ same_kind refl)
-    (subst (λ text. IsAcceptedAs reading current text size) (sym is) at)
+    subst (λ reading. IsAcceptedAs reading current text size) (same_spec others.spec _ _ _ same_kind refl refl)
+    (accepted_too words others.spec.words reading text size
+    (subst (λ text. IsAcceptedAs reading current text size) (sym is) at))
 
 -- a size has one text with a unit or as digits
 one_text : SizeHasOneForm → (kind : Kind) (precision : Option ℕ) (size : ℕ) (text other : List ℕ) (is_binary : Bool)

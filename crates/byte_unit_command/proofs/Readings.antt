@@ -1,18 +1,19 @@
 -- Lemmas: what the parser has returned for a field.
 use Rattle.std.proofs.Common.{◌≡◌, List, ℕ, Bool, Option, Some, Result, Err, ap, inr, subst, sym, ◌∙◌, IsUtf8}
-use Rattle.byte_unit.specs.Reading.ParseSpec.{parse_spec}
+use Rattle.byte_unit.specs.Reading.ParseSpec.{parse_spec, with_words}
 use Rattle.byte_unit.specs.Reading.Results.{IsBytesReadingAs, IsReadingAs}
 use Rattle.byte_unit.specs.declared.Kind.{Kind}
 use Rattle.byte_unit.specs.declared.ParseError.{ParseError}
 use Rattle.byte_unit.specs.declared.ParseSpec.{ParseSpec}
 use Rattle.byte_unit_command.specs.Field.{IsNoSizeBy}
 
--- a reading with the kind and prefixes of another is the other
-pub same_spec : (spec : ParseSpec) (kind : Kind) (binary : Bool) → spec.kind ≡ kind → spec.binary ≡ binary
-    → parse_spec kind spec.ignore_case binary ≡ spec
-same_spec spec kind binary kind_is binary_is =
-    ap (λ kind. parse_spec kind spec.ignore_case binary) (sym kind_is)
-    ∙ ap (λ binary. parse_spec spec.kind spec.ignore_case binary) (sym binary_is)
+-- a reading with the kind and prefixes of another, and words as it has them, is the other
+pub same_spec : (spec : ParseSpec) (kind : Kind) (binary words : Bool) → spec.kind ≡ kind → spec.binary ≡ binary
+    → spec.words ≡ words → with_words words (parse_spec kind spec.ignore_case binary) ≡ spec
+same_spec spec kind binary words kind_is binary_is words_is =
+    ap (λ kind. with_words words (parse_spec kind spec.ignore_case binary)) (sym kind_is)
+    ∙ ap (λ binary. with_words words (parse_spec spec.kind spec.ignore_case binary)) (sym binary_is)
+    ∙ ap (λ words. with_words words (parse_spec spec.kind spec.ignore_case spec.binary)) (sym words_is)
 
 -- the result that is in `Some` is that of a string
 pub reading-of : (spec : ParseSpec) (field : List ℕ) {answer : Option (Result ℕ ParseError)}

@@ -1,8 +1,9 @@
 -- The options of a call, by the values of its options.
 use Rattle.std.specs.Prelude.{◌≡◌, ℕ, ◌≤◌, ⊤, ◌⊎◌, Bool, true, false, if◌then◌else◌, List, [], Option, None, Some}
-use Rattle.std.specs.Prelude.{MatchOption, option_map, unwrap_or, is_some, codes}
+use Rattle.std.specs.Prelude.{MatchOption, option_map, unwrap_or, is_some, codes, not}
 use Rattle.std.specs.Borrow.{Bor}
-use Rattle.byte_unit.specs.Reading.ParseSpec.{parse_spec}
+use Rattle.byte_unit.specs.Reading.ParseSpec.{parse_spec, with_words}
+use Rattle.byte_unit.specs.declared.ParseSpec.{ParseSpec}
 use Rattle.byte_unit.specs.declared.UnitType.TheVariants.{Binary}
 use Rattle.byte_unit_command.specs.Meaning.{IsFrom, IsOutputForm, MeansNothing}
 use Rattle.byte_unit_command.specs.Meaning.{IsForm, IsNoForm, IsDelimiter, IsPadding}
@@ -40,11 +41,16 @@ IsSeparator values separator =
     (delimiter : Option Separator) × IsDelimiter (given_text values.delimiter) delimiter
     × (separator ≡ (if values.blanks then Some Blanks else delimiter))
 
+-- how sizes are read
+abbrev pub spec_of : Values → Bool → ParseSpec
+spec_of values binary = with_words values.words (parse_spec values.kind values.ignore_case binary)
+
 -- the options of a call with these values and fields. Operands are records that end with a zero byte, and none of them
 -- is a header
 pub record AreOptions (values : Values) (ranges : List FieldRange) (options : Options) : Type 0 where
   pub kind : options.spec.kind ≡ values.kind
   pub ignore_case : options.spec.ignore_case ≡ values.ignore_case
+  pub words : options.spec.words ≡ values.words
   pub binary : IsFrom (given_text values.from) options.spec.binary
   pub form : (given : Form) × IsFormOf values given × IsOutputForm values.no_unit given options.form
   pub suffix : options.suffix.now ≡ unwrap_or (given_text values.suffix) []
@@ -60,6 +66,7 @@ pub record AreOptions (values : Values) (ranges : List FieldRange) (options : Op
   pub total : options.total ≡ values.total
   pub max : IsLimit options.spec (given_text values.max) options.max
   pub min : IsLimit options.spec (given_text values.min) options.min
+  pub hints : options.hints ≡ not values.no_hints
 
 -- the option with this name has this value, which is wrong
 abbrev pub IsWrongOf : List ℕ → Option (Bor (List ℕ)) → (List ℕ → ValueError → Type 0) → Wrong → Type 0
@@ -137,7 +144,6 @@ IsFirstWrong values fields wrong =
     (λ _. OrLater (IsWrongOf (codes "--invalid") values.invalid (MeansNothing IsMode Mode) wrong)
     (IsMode (given_text values.invalid))
     (λ _. OrLater
-    (IsWrongOf (codes "--max") values.max (IsNoLimit (parse_spec values.kind values.ignore_case binary)) wrong)
-    (IsLimit (parse_spec values.kind values.ignore_case binary) (given_text values.max))
-    (λ _.
-    IsWrongOf (codes "--min") values.min (IsNoLimit (parse_spec values.kind values.ignore_case binary)) wrong))))))))
+    (IsWrongOf (codes "--max") values.max (IsNoLimit (spec_of values binary)) wrong)
+    (IsLimit (spec_of values binary) (given_text values.max))
+    (λ _. IsWrongOf (codes "--min") values.min (IsNoLimit (spec_of values binary)) wrong))))))))

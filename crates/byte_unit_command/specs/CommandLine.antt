@@ -52,7 +52,7 @@ operands = record (new_rule (codes "SIZE")) {
 abbrev pub size_rules : List Rule
 size_rules =
     flag (codes "bits") ∷ not_free (lettered 105 (flag (codes "ignore-case"))) ∷ value (codes "from")
-    ∷ value (codes "to") ∷ flag (codes "no-unit") ∷ not_simple (value (codes "suffix")) ∷ precision
+    ∷ flag (codes "words") ∷ value (codes "to") ∷ flag (codes "no-unit") ∷ not_simple (value (codes "suffix")) ∷ precision
     ∷ lettered 72 (flag (codes "human-readable")) ∷ []
 
 -- those that say what is converted, and what a run does with what it finds; and the operands. The letters are `d` (100)
@@ -61,7 +61,7 @@ abbrev pub record_rules : List Rule
 record_rules =
     lettered 100 (value (codes "delimiter")) ∷ not_free (flag (codes "blanks")) ∷ not_simple (value (codes "field"))
     ∷ header ∷ not_simple (value (codes "padding")) ∷ value (codes "invalid") ∷ flag (codes "total")
-    ∷ value (codes "max") ∷ value (codes "min") ∷ lettered 122 (flag (codes "zero-terminated")) ∷ operands ∷ []
+    ∷ value (codes "max") ∷ value (codes "min") ∷ flag (codes "no-hints") ∷ lettered 122 (flag (codes "zero-terminated")) ∷ operands ∷ []
 
 -- a command with these arguments more
 abbrev pub with_rules : App → List Rule → App

@@ -1,11 +1,14 @@
 -- The messages about fields, for standard error.
 use Rattle.std.specs.Prelude.{◌≡◌, ℕ, Bool, true, false, IfSome, MatchBool, List, [], ◌∷◌, ◌++◌, Option, Some, None}
-use Rattle.std.specs.Prelude.{codes}
+use Rattle.std.specs.Prelude.{codes, if◌then◌else◌}
 use Rattle.std.specs.Fmt.{decimal}
 use Rattle.std.specs.Str.{IsUtf8}
 use Rattle.byte_unit.specs.Errors.Position.{location_words}
 use Rattle.byte_unit.specs.Errors.Text.{parse_text}
 use Rattle.byte_unit_base.specs.Errors.Quoted.{quote}
+use Rattle.byte_unit_base.specs.Errors.Hints.{hint_of, hint_text}
+use Rattle.byte_unit_base.specs.Grammar.SizeText.{trim_of}
+use Rattle.byte_unit_base.specs.declared.hint.Hint.{Hint}
 use Rattle.byte_unit_base.specs.declared.errors.LocatedError.{LocatedError}
 use Rattle.byte_unit_command.specs.Field.{IsSizeError, without_suffix}
 use Rattle.byte_unit_command.specs.State.{Context}
@@ -24,10 +27,20 @@ AreErrorWords e words =
     (message : List ℕ) × IfSome (parse_text e.error) (λ text. message ≡ text)
     × (words ≡ message ++ location_words e.location)
 
+-- the hint for a text that is told
+abbrev pub told_hint : Options → List ℕ → Option Hint
+told_hint options text = if options.hints then hint_of (trim_of text) else None
+
+-- the words of a hint, after those for the error
+abbrev pub hint_words : Option Hint → List ℕ
+hint_words None = []
+hint_words (Some hint) = codes "; hint: " ++ hint_text hint
+
 -- the words for a reason
 abbrev pub AreWords : FieldError → List ℕ → Type 0
 AreWords NotUtf8 words = words ≡ codes "not UTF-8"
-AreWords (Rejected e) words = AreErrorWords e words
+AreWords (Rejected e hint) words =
+    (message : List ℕ) × AreErrorWords e message × (words ≡ message ++ hint_words hint)
 AreWords Above words = words ≡ codes "above the maximum"
 AreWords Below words = words ≡ codes "below the minimum"
 
@@ -65,12 +78,12 @@ AreLimitMessages context number field size text =
     (above below : List ℕ) × IsMessageIf (is_above context.options.max size) context number field Above above
     × IsMessageIf (is_below context.options.min size) context number field Below below × (text ≡ above ++ below)
 
--- this is the reason why the field is not a size, with the location of the error in its text
+-- this is the reason why the field is not a size, with the location of the error in its text, and its hint
 abbrev pub IsFieldError : Options → List ℕ → FieldError → Type 0
 IsFieldError options field NotUtf8 = ¬ IsUtf8 (without_suffix options.suffix.now field)
-IsFieldError options field (Rejected e) =
+IsFieldError options field (Rejected e hint) =
     let text = without_suffix options.suffix.now field in
-    IsUtf8 text × IsSizeError options.spec text e
+    IsUtf8 text × IsSizeError options.spec text e × (hint ≡ told_hint options text)
 IsFieldError options field _ = ⊥
 
 -- whether rejected fields are told

@@ -39,6 +39,7 @@ IsNumberValue bits (Some text) (Some number) = IsUnsigned bits text number
 pub record HasValues (matches : ArgMatches) (values : Values) : Type 0 where
   pub kind : (bits : Bool) × IsFlag matches (codes "bits") bits × (values.kind ≡ kind_by_flag bits)
   pub ignore_case : IsFlag matches (codes "ignore-case") values.ignore_case
+  pub words : IsFlag matches (codes "words") values.words
   pub human_readable : IsFlag matches (codes "human-readable") values.human_readable
   pub from : given_text values.from ≡ first_value (found_of matches) (codes "from")
   pub to : given_text values.to ≡ first_value (found_of matches) (codes "to")
@@ -54,5 +55,6 @@ pub record HasValues (matches : ArgMatches) (values : Values) : Type 0 where
   pub total : IsFlag matches (codes "total") values.total
   pub max : given_text values.max ≡ first_value (found_of matches) (codes "max")
   pub min : given_text values.min ≡ first_value (found_of matches) (codes "min")
+  pub no_hints : IsFlag matches (codes "no-hints") values.no_hints
   pub zero_terminated : IsFlag matches (codes "zero-terminated") values.zero_terminated
   pub has_operands : values.has_operands ≡ is_some (matched_of (found_of matches) (codes "SIZE"))

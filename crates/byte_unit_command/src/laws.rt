@@ -12,6 +12,7 @@ pub fn formatted_sizes_are_read()
 {
     laws::size_form_reads_back();
     laws::plain_form_reads_back();
+    laws::words_change_no_accepted_text();
 }
 
 /// States that a second run in the exact form changes nothing, whatever prefixes mean.

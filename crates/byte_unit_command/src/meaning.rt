@@ -54,6 +54,7 @@ pub fn options_of<'a>(
         kind: values.kind,
         ignore_case: values.ignore_case,
         binary,
+        words: values.words,
     };
     let max = limit_of("--max", values.max, spec)?;
     let min = limit_of("--min", values.min, spec)?;
@@ -78,6 +79,7 @@ pub fn options_of<'a>(
         header: if values.has_operands { 0 } else { header },
         invalid,
         total: values.total,
+        hints: !values.no_hints,
         max,
         min,
     })

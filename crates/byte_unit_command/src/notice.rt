@@ -5,13 +5,15 @@ ghost use Rattle.std.specs.String.{string_bytes};
 ghost use Rattle.byte_unit_command.specs.Field.{IsNoSize};
 ghost use Rattle.byte_unit_command.specs.Messages.{AreLimitMessages, AreWords, IsRejectMessage};
 ghost use Rattle.byte_unit_command.specs.Messages.{AreErrorWords, IsFieldMessage, IsMessageIf, IsFieldError};
-ghost use Rattle.byte_unit_command.specs.Messages.{heading_text, quoted_text, tells_rejected as has_rejected_told};
+ghost use Rattle.byte_unit_command.specs.Messages.{heading_text, quoted_text, told_hint, hint_words};
+ghost use Rattle.byte_unit_command.specs.Messages.{tells_rejected as has_rejected_told};
+ghost use Rattle.std.specs.Str.{IsUtf8};
 ghost use Rattle.byte_unit_command.specs.CallEnds.{messages_of, context_of};
 ghost use Rattle.byte_unit_stream.specs.Beginnings.{IsBeginningOf};
 
 use crate::options::{Invalid, Options};
 use crate::size::without_suffix;
-use byte_unit_base::{LocatedError, Quoted, size};
+use byte_unit_base::{Hint, LocatedError, Quoted, hint_of, size};
 use std::alloc::{AllocError, Allocator};
 use std::fmt::Write;
 
@@ -42,8 +44,8 @@ pub(crate) struct Notices<A: Allocator> {
 enum FieldError {
     /// It is not UTF-8.
     NotUtf8,
-    /// It is rejected by the parser.
-    Rejected(LocatedError),
+    /// It is rejected by the parser. Holds the error, and the hint that is told.
+    Rejected(LocatedError, Option<Hint>),
     /// Its size is above the maximum.
     Above,
     /// Its size is below the minimum.
@@ -95,10 +97,21 @@ fn reason_of(options: &Options, field: &[u8]) -> FieldError
 {
     let text = without_suffix(options.suffix, field);
     match size::explain(text, options.spec) {
-        Some(Err(error)) => FieldError::Rejected(error),
+        Some(Err(error)) => FieldError::Rejected(error, told_hint(options, text)),
         // Never: a field that is parsed as a size is one.
         Some(Ok(_)) => FieldError::NotUtf8,
         None => FieldError::NotUtf8,
+    }
+}
+
+/// Returns the hint for a text that is told, if hints are.
+fn told_hint(options: &Options, text: &[u8]) -> Option<Hint>
+    ensures { IsUtf8 text.now → result ≡ told_hint options.now text.now }
+{
+    if options.hints {
+        hint_of(str::from_utf8(text).ok()?)
+    } else {
+        None
     }
 }
 
@@ -226,9 +239,27 @@ fn add_words<A: Allocator>(
 {
     match reason {
         FieldError::NotUtf8 => line.push_str("not UTF-8"),
-        FieldError::Rejected(error) => add_error(error, words, line),
+        FieldError::Rejected(error, hint) => {
+            add_error(error, words, line)?;
+            add_hint(hint, line)
+        }
         FieldError::Above => line.push_str("above the maximum"),
         FieldError::Below => line.push_str("below the minimum"),
+    }
+}
+
+/// Appends a hint, if there is one.
+///
+/// # Errors
+///
+/// Returns `AllocError` if allocation fails.
+fn add_hint<A: Allocator>(hint: &Option<Hint>, line: &mut String<A>) -> Result<(), AllocError>
+    ensures { OnOk result
+        (string_bytes line.new ≡ string_bytes line.old ++ hint_words hint.now) }
+{
+    match hint {
+        Some(hint) => write!(line, "; hint: {hint}"),
+        None => Ok(()),
     }
 }
 

@@ -85,4 +85,6 @@ pub struct Options<'a> {
     pub max: Option<u128>,
     /// The minimum of the sizes: a size below it has a message, and is counted as `Tally::beyond`.
     pub min: Option<u128>,
+    /// Whether the message of a rejected field has a hint.
+    pub hints: bool,
 }

@@ -1,6 +1,6 @@
 //! Reads one size of either kind.
 
-ghost use Rattle.std.specs.Prelude.{◌≡◌, ◌<◌, ◌≤◌, false, IfSome, IfNone, IfOk};
+ghost use Rattle.std.specs.Prelude.{◌≡◌, ◌<◌, ◌≤◌, [], false, IsTrue, IfSome, IfNone, IfOk};
 ghost use Rattle.byte_unit.specs.Bounds.{size_limit};
 ghost use Rattle.byte_unit.specs.Reading.Results.{IsBytesReadingAs};
 ghost use Rattle.byte_unit_command.specs.Field.{IsSize, IsNoSize, IsSizeBy, IsNoSizeBy};
@@ -59,7 +59,7 @@ pub(crate) fn accepted(options: &Options, field: &[u8]) -> Option<u128>
     ensures some { IfSome result (IsSize options.now field.now) }
     ensures none { IfNone result (IsNoSize options.now field.now) }
 {
-    let size = if options.suffix.is_empty() && !options.spec.binary {
+    let size = if reads_plainly(options) {
         plain_size(options, field)
     } else {
         special_size(options, field)
@@ -67,12 +67,23 @@ pub(crate) fn accepted(options: &Options, field: &[u8]) -> Option<u128>
     if size >= NO_SIZE { None } else { Some(size) }
 }
 
+/// Returns whether a field is the text of a size, read as it is written.
+#[inline(always)]
+fn reads_plainly(options: &Options) -> bool
+    ensures suffix { IsTrue result → options.now.suffix.now ≡ [] }
+    ensures prefixes { IsTrue result → options.now.spec.binary ≡ false }
+    ensures words { IsTrue result → options.now.spec.words ≡ false }
+{
+    options.suffix.is_empty() && !options.spec.binary && !options.spec.words
+}
+
 /// Returns the size that a text represents, or `NO_SIZE`.
 ///
-/// Precondition (proved at every call): the options read prefixes as they are.
+/// Precondition (proved at every call): the options read prefixes as they are, and no words.
 #[inline(never)]
 fn plain_size(options: &Options, text: &[u8]) -> u128
-    requires { options.now.spec.binary ≡ false }
+    requires prefixes { options.now.spec.binary ≡ false }
+    requires words { options.now.spec.words ≡ false }
     ensures some { result < NO_SIZE → IsSizeBy options.now.spec text.now result }
     ensures none { NO_SIZE ≤ result → IsNoSizeBy options.now.spec text.now }
 {

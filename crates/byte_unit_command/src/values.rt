@@ -13,6 +13,8 @@ pub struct Values<'a> {
     pub kind: Kind,
     /// Whether `--ignore-case` is given.
     pub ignore_case: bool,
+    /// Whether `--words` is given.
+    pub words: bool,
     /// Whether `--human-readable` is given.
     pub human_readable: bool,
     /// The value of `--from`.
@@ -43,6 +45,8 @@ pub struct Values<'a> {
     pub max: Option<&'a str>,
     /// The value of `--min`.
     pub min: Option<&'a str>,
+    /// Whether `--no-hints` is given.
+    pub no_hints: bool,
     /// Whether `--zero-terminated` is given.
     pub zero_terminated: bool,
     /// Whether there are operands.
@@ -66,6 +70,7 @@ pub fn values_of<'a>(matches: &ArgMatches<'a>) -> Values<'a>
         precision: matches.get_one::<u16>("precision"),
         header: matches.get_one::<u64>("header"),
         ignore_case: matches.get_flag("ignore-case"),
+        words: matches.get_flag("words"),
         human_readable: matches.get_flag("human-readable"),
         from: matches.get_str("from"),
         to: matches.get_str("to"),
@@ -79,6 +84,7 @@ pub fn values_of<'a>(matches: &ArgMatches<'a>) -> Values<'a>
         total: matches.get_flag("total"),
         max: matches.get_str("max"),
         min: matches.get_str("min"),
+        no_hints: matches.get_flag("no-hints"),
         zero_terminated: matches.get_flag("zero-terminated"),
         has_operands: matches.contains_id("SIZE"),
     }

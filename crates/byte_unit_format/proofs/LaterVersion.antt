@@ -13,6 +13,8 @@ use Rattle.byte_unit_base.specs.Grammar.Version.{first_version, current, unit_na
 use Rattle.byte_unit_base.specs.Grammar.Spelling.{Spells, SpellsPrefix}
 use Rattle.byte_unit_base.specs.declared.spec.Flags.{Flags}
 use Rattle.byte_unit_base.specs.Grammar.Number.{IsNumberText}
+use Rattle.byte_unit_base.specs.Reading.ParseSpec.{parse_spec}
+use Rattle.byte_unit_base.specs.Sizes.Accepted.{IsMeasureAs}
 use Rattle.byte_unit_choice.specs.Family.{InFamily, own_family}
 use Rattle.byte_unit_base.specs.Sizes.Kinds.{bits_in, flags_for}
 use Rattle.byte_unit_choice.specs.Choice.{IsLargestOrOwn, IsRecoveredIn}
@@ -55,12 +57,19 @@ number_stays : (text : List ℕ) (number : ℕ) → IsNumberText first_version t
 number_stays text number (inl h) = inl (search rules)
 number_stays text number (inr h) = inr (search rules)
 
+-- A string that the first version reads without words as a number of a unit is read as the same.
+measure_stays : (kind : Kind) (ignore_case : Bool) (text : List ℕ) (number : ℕ) (unit : Shape)
+    → IsMeasureAs (parse_spec kind ignore_case false) first_version text number unit
+    → IsMeasureAs (parse_spec kind ignore_case false) current text number unit
+measure_stays kind ignore_case text number unit (inl is) =
+    let spelled = spelling_stays (flags_for kind ignore_case) is.unit_part unit is.unit_is in
+    inl (search (rules, number_stays is.number_part number is.number_is, spelled))
+measure_stays kind ignore_case text number unit (inr words) = absurd (let never : ⊥ = cc (words.1) in never)
+
 -- A string that the first version accepts is accepted as the same size.
 pub accepted_stays : AcceptedTextsStay
 accepted_stays kind ignore_case text size h =
-    let is_size = h.is_read.is_size in
-    let spelled = spelling_stays (flags_for kind ignore_case) is_size.unit_part h.is_read.unit is_size.unit_is in
-    search (rules, number_stays is_size.number_part h.number is_size.number_is, spelled)
+    search (rules, measure_stays kind ignore_case text h.number h.is_read.unit h.is_read.is_size)
 
 -- A unit that is at most a size of the first version is a unit of the first version.
 member_is_old : (kind : Kind) (size : ℕ) (unit : Shape) → size < first_version.size_limit

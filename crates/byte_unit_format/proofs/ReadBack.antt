@@ -31,7 +31,7 @@ use Rattle.byte_unit_choice.specs.Choice.{IsRecoveredIn}
 use Rattle.byte_unit_choice.proofs.Choosing.{some_bits, own_number}
 use Rattle.byte_unit_base.proofs.Names.{IsKnown, SaysKind, name_spells, name_visible, name_some, unit_known}
 use Rattle.byte_unit_base.specs.Sizes.Kinds.{bits_in, own_unit, flags_for}
-use Rattle.byte_unit_base.specs.Sizes.Accepted.{IsAccepted, IsAcceptedAs, IsRejected}
+use Rattle.byte_unit_base.specs.Sizes.Accepted.{IsAccepted, IsAcceptedAs, IsRejected, IsMeasureAs}
 use Rattle.byte_unit_base.specs.Reading.ParseSpec.{parse_spec, unit_meant}
 use Rattle.byte_unit_base.specs.declared.spec.ParseSpec.{ParseSpec}
 use Rattle.byte_unit_format.specs.Layout.{layout, layout_padding, layout_left_padding, gap_of}
@@ -65,7 +65,8 @@ pub accepted_as :
     → IsSizeText current (flags_for reading.kind reading.ignore_case) (trim_of text) number unit
     → number * bits unit ≡ size * bits_in reading.kind * scale → size < current.size_limit
     → IsAcceptedAs reading current text size
-accepted_as reading text number size unit itself is_size exact below = grind (arith)
+accepted_as reading text number size unit itself is_size exact below =
+    let measure : IsMeasureAs reading current text number unit = inl is_size in grind (arith, measure)
 
 -- A layout is spaces, the number, spaces and the unit.
 layout_regrouped :
@@ -273,7 +274,7 @@ string_rejected : (kind : Kind) (size : ℕ) (unit : UnitName) (text : List ℕ)
     → IsRejected kind false text too_long
 string_rejected kind size unit text below (inl greatest) long = absurd (long (inl greatest.0))
 string_rejected kind size unit text below (inr other) long =
-    inr (form_rejected kind size unit text below other.1 (λ exact. long (inr exact)))
+    inr (form_rejected kind size unit text below other.1 (λ exact. long (inr exact)), refl)
 
 -- The string of an adjusted size is read as the size if it has at most 28 digits after the point, and is else rejected
 -- as too long.

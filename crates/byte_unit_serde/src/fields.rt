@@ -9,6 +9,7 @@ use crate::ignore_case::IgnoreCase;
 use crate::lists::Lists;
 use crate::options::OptionalStrings;
 use crate::strings::Strings;
+use crate::words::Words;
 use byte_unit::{Bit, Byte, Unit};
 
 /// A size in bytes as a string, for `#[serde(with = "byte_unit_serde::byte")]`.
@@ -60,6 +61,32 @@ pub type optional_byte_ignore_case = OptionalStrings<Byte, IgnoreCase>;
 
 /// A list of strings of [`byte_ignore_case`].
 pub type byte_vec_ignore_case = Lists<Byte, IgnoreCase>;
+
+/// A size in bytes as a string that may have words, with case ignored: `100 megabytes` is 100 MB.
+///
+/// # Examples
+///
+/// ```rust
+/// use byte_unit::Byte;
+/// use serde::{Deserialize, Serialize};
+///
+/// #[derive(Drop, Deserialize, Serialize)]
+/// struct Settings {
+///     #[serde(with = "byte_unit_serde::byte_words")]
+///     limit: Byte,
+/// }
+///
+/// let settings: Settings = serde_json::from_str(alloc, "{\"limit\":\"100 megabytes\"}")?;
+/// assert_eq!(rt; settings.limit, Byte::from_u64(100_000_000));
+/// assert_eq!(rt; serde_json::to_string(alloc, &settings)?.as_str(), "{\"limit\":\"100 MB\"}");
+/// ```
+pub type byte_words = Strings<Byte, Words>;
+
+/// A string of [`byte_words`], or nothing, for fields that also have `default`.
+pub type optional_byte_words = OptionalStrings<Byte, Words>;
+
+/// A list of strings of [`byte_words`].
+pub type byte_vec_words = Lists<Byte, Words>;
 
 /// A size in bytes as a string, read as `Byte::parse_str_binary` parses it with `ignore_case`: `10m` is 10 MiB, and
 /// `128MB` 128 MiB.

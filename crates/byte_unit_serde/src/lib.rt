@@ -14,11 +14,12 @@ mod stored;
 mod strings;
 mod toml_values;
 mod units;
+mod words;
 
 pub use fields::{
     bit, bit_vec, byte, byte_binary, byte_ignore_case, byte_vec, byte_vec_binary,
-    byte_vec_ignore_case, optional_bit, optional_byte, optional_byte_binary,
-    optional_byte_ignore_case, optional_unit, unit,
+    byte_vec_ignore_case, byte_vec_words, byte_words, optional_bit, optional_byte,
+    optional_byte_binary, optional_byte_ignore_case, optional_byte_words, optional_unit, unit,
 };
 pub use lists::Lists;
 pub use options::OptionalStrings;

@@ -10,6 +10,7 @@ mod answers;
 mod constants;
 mod escapes;
 mod format;
+mod hints;
 mod numbers;
 mod parsing;
 mod row;
@@ -53,7 +54,10 @@ fn compare(alloc: Global, line: &str) -> Result<Option<String>, RowError> {
     let wanted = unescaped(alloc, row.answer)?;
     let words = row.words.as_slice();
     let found = match &row.text {
-        Some(text) => parsing::answer(alloc, words, text.as_str())?,
+        Some(text) => match words {
+            ["words" | "hint", ..] => hints::answer(alloc, words, text.as_str())?,
+            _ => parsing::answer(alloc, words, text.as_str())?,
+        },
         None => texts::answer(alloc, words)?,
     };
     if found.as_str() == wanted.as_str() {

@@ -12,6 +12,9 @@ pub const KINDS: &[(&str, Kind)] = &[("byte", Kind::Byte), ("bit", Kind::Bit)];
 /// Whether case is ignored.
 pub const CASES: &[(&str, bool)] = &[("uncased", true), ("cased", false)];
 
+/// Whether decimal prefixes mean binary ones.
+pub const PREFIXES: &[(&str, bool)] = &[("binary", true), ("decimal", false)];
+
 /// Whether a unit without a suffix is of bytes.
 pub const PREFERRED: &[(&str, bool)] = &[("bytes", true), ("bits", false)];
 

@@ -9,6 +9,7 @@ from math import ceil
 
 from .exact import (BASE, BITS, FRACTION_PLACES, SCALE, SIZE_LIMIT, UNITS, WHITE_SPACE, WHOLE_LIMIT, Rejected,
                     bad_unit, best_unit, read, size_of, unit_of, value_of)  # fmt: skip
+from .words import hint, read_words
 
 # A format string of the Rust crate, and how each type of units has the letter `i`.
 SPEC = re.compile(r"\{(?::([<^>]?)([+-]?)(#?)(\d*)(?:\.(\d+))?)?\}")
@@ -36,6 +37,16 @@ def size_in(kind, case, text, binary=False):
 def parse(kind, case, text, binary=False):
     size = size_in(kind, case, text, binary)
     return getattr(size, "answer", str(size))
+
+
+def in_words(kind, prefixes, case, text):
+    size = size_of(text.encode(), kind, case == "uncased", prefixes == "binary", read_words)
+    return getattr(size, "answer", str(size))
+
+
+def hinted(text):
+    found = hint(text.strip(WHITE_SPACE))
+    return quoted(found) if found else "none"
 
 
 def unit(case, prefer, text):
@@ -232,6 +243,7 @@ def of_json(text, answer, *words):
 
 CALLS = {
     "parse": parse, "parse_binary": lambda *words: parse(*words, binary=True), "unit": unit, "read": number_and_unit,
+    "words": in_words, "hint": hinted,
     "says": lambda *words: quoted(size_in(*words).message), "position": position, "text": text_of,
     "plain": digits, "value": lambda kind, size, _, name: f"{int(size) * SCALE[kind]}/{BITS[name]}",
     "exact": lambda kind, allowed, size: recoverable(kind, allowed, 0, size), "recoverable": recoverable,

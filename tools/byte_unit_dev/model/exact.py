@@ -95,10 +95,11 @@ def read(text, kind, ignore_case=False):
 
 
 @functools.lru_cache(maxsize=1 << 10)
-def size_of(data, kind, ignore_case=False, binary=False):
-    """Returns the size that bytes represent, or why they represent none. If `binary`, all prefixes are by 1024."""
+def size_of(data, kind, ignore_case=False, binary=False, reader=read):
+    """Returns the size that bytes represent, or why they represent none. If `binary`, all prefixes are by 1024; `reader`
+    reads the number and the unit."""
     try:
-        found = read(data.decode().strip(WHITE_SPACE), kind, ignore_case)
+        found = reader(data.decode().strip(WHITE_SPACE), kind, ignore_case)
     except UnicodeDecodeError:
         return Rejected("not text", "the text is not UTF-8", "NotUtf8")
     if isinstance(found, Rejected):

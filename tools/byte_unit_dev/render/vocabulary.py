@@ -28,10 +28,11 @@ LIBRARY = [
     ("{}::from", "char i64 i128 u32 u64 u128 usize"),
     ("{}::try_from", "u8 u16 u32 u64 u128 usize"),
     ("{}", "u32::MAX u64::BITS u64::MAX u128::BITS"),
-    (".{}(", """as_bytes chars checked_add checked_div checked_mul checked_sub copy_from_slice div_ceil encode_utf8 fill
-        filter is_ascii is_ascii_graphic is_control is_empty iter leading_zeros max min ok ok_or parse saturating_add
-        saturating_mul saturating_sub split_at then then_some trailing_zeros trim trim_start unwrap unwrap_or
-        wrapping_add wrapping_mul wrapping_sub write_str"""),
+    (".{}(", """as_bytes chars checked_add checked_div checked_mul checked_sub copy_from_slice div_ceil encode_utf8
+        eq_ignore_ascii_case fill filter is_ascii is_ascii_alphabetic is_ascii_digit is_ascii_graphic is_control is_empty
+        is_some iter leading_zeros max min ok ok_or parse saturating_add saturating_mul saturating_sub split_at
+        split_first then then_some to_ascii_lowercase trailing_zeros trim trim_start unwrap unwrap_or wrapping_add
+        wrapping_mul wrapping_sub write_str"""),
     # By hand, in `support`.
     ("{}", """InlineText InlineText::of last_16_digits read_digits u8x16 u8x32::from_slice
         u8x32::splat u8x4::from_slice u8x8::from_slice u32x1::from_le_bytes u64x1::from_le_bytes .simd_ne( .to_array(
@@ -44,8 +45,8 @@ LIBRARY = [
 # The forms that the programs have beside those. What `rattle` and `clap` declare is by hand, in the package.
 PROGRAMS = [
     ("{}", "loop trait Copy Infallible std::convert std::process std::slice::from_ref std::str"),
-    (".{}(", """all any as_ref as_slice bytes ends_with extend_from_slice is_ascii_digit is_none is_ok is_some
-        is_some_and pop push push_str resize skip sort_unstable_by_key split split_once starts_with strip_prefix
+    (".{}(", """all any as_ref as_slice bytes ends_with extend_from_slice is_none is_ok is_some_and
+        pop push push_str resize skip sort_unstable_by_key split split_once starts_with strip_prefix
         trim_end truncate windows"""),
     # By hand, in `support`, `rattle` and `clap`.
     ("{}", """AllocError Allocator ErrorKind ExitCode ExitCode::from Global HostRuntime String String::new Vec Vec::new

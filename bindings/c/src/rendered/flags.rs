@@ -1,7 +1,8 @@
 // Rendered from crates/byte_unit_c/src/flags.rt by `tools/dev render rust`. Do not edit.
 
 //! The flags words of the C API. A flags word is a sum of flags: 1 for sizes of bits (and else of bytes), 2 for parsing
-//! that ignores case, 4 for units of either kind, and 8 for parsing in which decimal prefixes mean binary ones.
+//! that ignores case, 4 for units of either kind, 8 for parsing in which decimal prefixes mean binary ones, and 16 for
+//! parsing that reads words for units.
 
 use byte_unit::rendered::base::{Kind, ParseSpec};
 
@@ -19,6 +20,9 @@ const EITHER_KIND: u32 = 4;
 
 /// The flag of parsing in which decimal prefixes mean binary ones.
 const BINARY_PREFIXES: u32 = 8;
+
+/// The flag of parsing that reads words for units.
+const WORDS: u32 = 16;
 
 /// The decoded flags of a choice of a unit.
 #[derive(Clone, Copy)]
@@ -60,10 +64,26 @@ pub fn binary_spec_at(flags: u32) -> Option<ParseSpec> {
     Some(ParseSpec { binary: true, ..spec })
 }
 
-/// Returns how to parse, by a word with any of the flags of [`binary_spec_at`]. Returns `None` if the word has another
+/// Returns how to parse without words, by a word with any of the flags of [`binary_spec_at`]. Returns `None` if the word
+/// has another flag.
+fn plain_spec_at(flags: u32) -> Option<ParseSpec> {
+    if flags < BINARY_PREFIXES { parse_spec_at(flags) } else { binary_spec_at(flags) }
+}
+
+/// Returns how to parse, by a word with the flag `WORDS` and, beside it, any of the flags of [`binary_spec_at`]. Returns
+/// `None` if the word does not have the flag `WORDS`, or has another flag.
+pub fn words_spec_at(flags: u32) -> Option<ParseSpec> {
+    if flags < WORDS {
+        return None;
+    }
+    let spec = plain_spec_at(flags - WORDS)?;
+    Some(spec.reading_words(true))
+}
+
+/// Returns how to parse, by a word with any of the flags of [`words_spec_at`]. Returns `None` if the word has another
 /// flag.
 pub fn any_spec_at(flags: u32) -> Option<ParseSpec> {
-    if flags < BINARY_PREFIXES { parse_spec_at(flags) } else { binary_spec_at(flags) }
+    if flags < WORDS { plain_spec_at(flags) } else { words_spec_at(flags) }
 }
 
 /// Returns how to choose a unit, by a word with the flags `BITS` and `EITHER_KIND`, one of them, or none. Returns

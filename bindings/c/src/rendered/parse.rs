@@ -8,7 +8,8 @@ use crate::rendered::flags::parse_spec_at;
 use crate::rendered::values::Number;
 use crate::slices::Out;
 use byte_unit::rendered::base::{
-    Flags, Kind, Measure, ParseSpec, Reason, Stop, Unit, UnitStop, ValueParseError, read_text, read_unit_text, size,
+    Flags, Kind, Measure, ParseSpec, Reason, Stop, Unit, UnitStop, ValueParseError, measure_in_words, read_text,
+    read_unit_text, size,
 };
 use core::str;
 
@@ -44,7 +45,10 @@ pub fn parse_as(text: &[u8], spec: ParseSpec, size: &mut Out<Number>, errors: &m
     let flags = spec.flags();
     match read_text(text, flags) {
         Some(Ok(found)) => write_size(found, spec, size, errors),
-        Some(Err(stop)) => write_stop(stop, flags, errors),
+        Some(Err(stop)) => match measure_in_words(text, spec) {
+            Some(found) => write_size(found, spec, size, errors),
+            None => write_stop(stop, flags, errors),
+        },
         None => NOT_UTF8,
     }
 }

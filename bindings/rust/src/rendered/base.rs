@@ -7,6 +7,7 @@
 pub use crate::rendered::base::errors::{
     ExceededBoundsError, LocatedError, Location, ParseError, UnitParseError, ValueParseError,
 };
+pub use crate::rendered::base::hint::{Hint, hint_of};
 pub use crate::rendered::base::kind::Kind;
 pub use crate::rendered::base::quoted::{MAX_QUOTE_LEN, Quoted, quote};
 pub use crate::rendered::base::read::{Measure, read_size, read_text};
@@ -15,8 +16,10 @@ pub use crate::rendered::base::stop::{Expected, NumberStop, Reason, Stop, UnitSt
 pub use crate::rendered::base::unit::Unit;
 pub use crate::rendered::base::unit::parse::read_unit_text;
 pub use crate::rendered::base::unit::tables::{PREFIXES, prefix_letter, unit_at};
+pub use crate::rendered::base::words::measure_in_words;
 
 mod errors;
+mod hint;
 mod kind;
 mod quoted;
 mod read;
@@ -24,3 +27,4 @@ pub mod size;
 mod spec;
 mod stop;
 mod unit;
+mod words;

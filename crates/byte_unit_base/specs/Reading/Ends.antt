@@ -1,12 +1,12 @@
 -- Private: where the parsers of a number, of a unit and of both end, and with which result; what the code keeps of a
 -- state of the state machine; and what the parsers that leave the error to be made return. Contracts of this crate, and
 -- of private functions of byte_unit_c, cite this file.
-use Rattle.std.specs.Prelude.{ℕ, zero, suc, Bool, true, false, if◌then◌else◌, ◌==◌, List, Some, None, codes, ◌≡◌, ◌≢◌}
+use Rattle.std.specs.Prelude.{ℕ, Bool, true, false, if◌then◌else◌, ◌==◌, List, Some, None, codes, ◌≡◌, ◌≢◌}
 use Rattle.std.specs.Prelude.{⊤, ◌+◌, ◌-◌, ◌<◌, ◌≤◌, [], ◌∷◌, ◌++◌, length, take, replicate, drop, slice_index, Option}
 use Rattle.std.specs.Prelude.{Result, Ok, Err}
 use Rattle.std.specs.List.{common_prefix_len}
 use Rattle.std.specs.Char.{to_ascii_lowercase, is_ascii_graphic}
-use Rattle.byte_unit_base.specs.Reading.Machines.{prefix_at, Multiple, One, Decimal, Binary, UnitScan, SuffixPart}
+use Rattle.byte_unit_base.specs.Reading.Machines.{Multiple, One, UnitScan, SuffixPart}
 use Rattle.byte_unit_base.specs.Reading.Machines.{Empty, UpperB, LowerB, Bi, Bit, Bits, unit_of, unit_step, start, run}
 use Rattle.byte_unit_base.specs.Reading.Machines.{SizeScan, Beginning, size_step, size_parser_state, after_number}
 use Rattle.byte_unit_base.specs.Errors.ViablePrefix.{ParserState, before_unit, after_prefix, after_b, after_bi}
@@ -41,15 +41,6 @@ use Rattle.byte_unit_base.specs.Reading.Results.{IsNumberReading, IsUnitReading}
 use Rattle.byte_unit_base.specs.declared.errors.ParseError.{ParseError}
 use Rattle.byte_unit_base.specs.declared.errors.UnitParseError.{UnitParseError}
 use Rattle.byte_unit_base.specs.declared.stop.Stop.{Stop}
-
--- the position of the prefix of a letter, or 0 if it is no prefix letter
-abbrev pub letter_power : ℕ → ℕ
-letter_power c = elim (prefix_at c) [ Some p ↦ p | None ↦ 0 ]
-
--- the prefix of a position, binary or decimal, or none if it is 0
-abbrev pub multiple_of : ℕ → Bool → Multiple
-multiple_of zero binary = One
-multiple_of (suc n) binary = if binary then Binary (suc n) else Decimal (suc n)
 
 -- the suffix of the first `n` letters of `bits`, the first of which is a `B` or a `b`
 abbrev pub word_of : ℕ → Bool → SuffixPart

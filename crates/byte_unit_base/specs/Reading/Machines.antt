@@ -1,7 +1,7 @@
 -- The state machines that read a unit, and a number and a unit, character by character, so that a proof can compute
 -- what a literal is read as. It is proved that they accept the inputs, and give the errors, of the other files
 -- (`Laws.Parsed`).
-use Rattle.std.specs.Prelude.{ℕ, List, [], ◌∷◌, Option, Some, None, Result, Err, option_and_then, ◌≡◌, suc, Bool, true}
+use Rattle.std.specs.Prelude.{ℕ, List, [], ◌∷◌, Option, Some, None, Result, Err, option_and_then, ◌≡◌, suc, Bool, true, zero}
 use Rattle.std.specs.Prelude.{false, not, if◌then◌else◌, ◌==◌, Ok, codes, ◌+◌, ◌-◌, ◌*◌, ◌^◌, nat_lt}
 use Rattle.byte_unit_base.specs.Grammar.Version.{current}
 use Rattle.byte_unit_base.specs.Grammar.Spelling.{Flags, SpellsPrefix}
@@ -69,6 +69,15 @@ prefix_at c = position_in current.letters 1 (to_ascii_uppercase c)
 -- whether the character is `i` (105) or `I`
 abbrev pub is_i : ℕ → Bool
 is_i c = to_ascii_lowercase c == 105
+
+-- the position of the prefix of a letter, or 0 if it is no prefix letter
+abbrev pub letter_power : ℕ → ℕ
+letter_power c = elim (prefix_at c) [ Some p ↦ p | None ↦ 0 ]
+
+-- the prefix of a position, binary or decimal, or none if it is 0
+abbrev pub multiple_of : ℕ → Bool → Multiple
+multiple_of zero binary = One
+multiple_of (suc n) binary = if binary then Binary (suc n) else Decimal (suc n)
 
 -- the prefix after one character more: a letter, and then an `i`; `None` if the character does not continue it
 abbrev pub multiple_step : Multiple → ℕ → Option Multiple

@@ -10,6 +10,7 @@ use Rattle.byte_unit_base.specs.Grammar.SizeText.{trim_of}
 use Rattle.byte_unit_base.specs.Errors.Fault.{Fault, exceeded}
 use Rattle.byte_unit_base.specs.Sizes.Kinds.{flags_for, bits_in}
 use Rattle.byte_unit_base.specs.Reading.ParseSpec.{ParseSpec, parse_spec, unit_meant}
+use Rattle.byte_unit_base.specs.Reading.Words.{in_words, or_in_words}
 use Rattle.byte_unit_base.specs.Reading.Machines.{read, unit_scan, start, size_scan, Beginning}
 use Rattle.byte_unit_base.specs.declared.kind.Kind.{Kind}
 use Rattle.byte_unit_base.specs.declared.unit.Unit.{Unit as UnitName}
@@ -39,9 +40,14 @@ abbrev pub size_of_parsed : ParseSpec → Result (ℕ × Shape) Fault → Result
 size_of_parsed spec (Ok found) = size_within_limit found.0 (rounded_up spec.kind found.0 (unit_meant spec found.1))
 size_of_parsed spec (Err fault) = Err fault
 
+-- the number and the unit of the input, in words where they are read, or its error
+abbrev pub parsed_measure : ParseSpec → List ℕ → Result (ℕ × Shape) Fault
+parsed_measure spec bytes =
+    or_in_words (in_words spec (trim_of bytes)) (parsed_number (flags_for spec.kind spec.ignore_case) bytes)
+
 -- the size that the input is accepted as, or the error that it is rejected with
 unfoldable pub parsed_size_as : ParseSpec → List ℕ → Result ℕ Fault
-parsed_size_as spec bytes = size_of_parsed spec (parsed_number (flags_for spec.kind spec.ignore_case) bytes)
+parsed_size_as spec bytes = size_of_parsed spec (parsed_measure spec bytes)
 
 -- the size that the input is accepted as, or the error, by the unit that is written
 abbrev pub parsed_size : Kind → Bool → List ℕ → Result ℕ Fault

@@ -3,8 +3,8 @@
 ghost use Rattle.std.specs.Prelude.{◌≡◌, ◌≢◌, Some, ◌≤◌, length, drop};
 ghost use lib.Lanes.{digits_l};
 ghost use Rattle.byte_unit_base.specs.Grammar.Units.{shape_of};
-ghost use Rattle.byte_unit_base.specs.Reading.Machines.{count_of, multiple_shape};
-ghost use Rattle.byte_unit_base.specs.Reading.Ends.{multiple_of, word_of, bits_len, IsLineOf, IsUnitEnd};
+ghost use Rattle.byte_unit_base.specs.Reading.Machines.{count_of, multiple_of, multiple_shape};
+ghost use Rattle.byte_unit_base.specs.Reading.Ends.{word_of, bits_len, IsLineOf, IsUnitEnd};
 
 use crate::Unit;
 use crate::read::load::eight_at;

@@ -1,5 +1,5 @@
-//! Tests of sizes that `serde` reads with case ignored, and of those with prefixes by 1024, from JSON and from TOML,
-//! and of the strings that it stores.
+//! Tests of sizes that `serde` reads with case ignored, with prefixes by 1024 and in words, from JSON and from TOML, and
+//! of the strings that it stores.
 use super::asserting::{assert_error, assert_for, assert_is};
 use byte_unit::Byte;
 use byte_unit_tests::rows;
@@ -29,6 +29,17 @@ struct Binary {
     parts: Vec<Byte>,
 }
 
+/// A struct with a size, an optional size and a list, each of which may have words.
+#[derive(Drop, Serialize, Deserialize)]
+struct InWords {
+    #[serde(with = "byte_unit_serde::byte_words")]
+    size: Byte,
+    #[serde(with = "byte_unit_serde::optional_byte_words", default)]
+    limit: Option<Byte>,
+    #[serde(with = "byte_unit_serde::byte_vec_words")]
+    parts: Vec<Byte>,
+}
+
 /// Strings, the numbers of bytes as which they are read with case ignored, and the strings as which those are written.
 const IGNORING_CASE: &[(&str, u64, &str)] = &rows! {
     ("100 mb", 100_000_000, "100 MB"),
@@ -48,6 +59,14 @@ const BINARY: &[(&str, u64, &str)] = &rows! {
     ("0", 0, "0"),
     ("1000000", 1_000_000, "1000000"),
     ("15e", 17_293_822_569_102_704_640, "15 EiB"),
+};
+
+/// The same in words.
+const IN_WORDS: &[(&str, u64, &str)] = &rows! {
+    ("100 megabytes", 100_000_000, "100 MB"),
+    ("3 Kibibytes", 3072, "3 KiB"),
+    ("12 octets", 12, "12 B"),
+    ("1 mb", 1_000_000, "1 MB"),
 };
 
 /// Settings with a size, an optional size and a list of sizes.
@@ -70,6 +89,16 @@ impl Sizes for IgnoringCase {
 }
 
 impl Sizes for Binary {
+    fn single(&self) -> (Byte, Option<Byte>) {
+        (self.size, self.limit)
+    }
+
+    fn parts(&self) -> &[Byte] {
+        self.parts.as_slice()
+    }
+}
+
+impl Sizes for InWords {
     fn single(&self) -> (Byte, Option<Byte>) {
         (self.size, self.limit)
     }
@@ -139,6 +168,13 @@ fn prefixes_are_by_1024(rt: HostRuntime) {
     }
 }
 
+#[test]
+fn words_are_read(rt: HostRuntime) {
+    for row in IN_WORDS {
+        assert_stored::<InWords>(&rt, rt.alloc(), *row);
+    }
+}
+
 /// Asserts that the limit is none and the list is empty.
 fn assert_nothing<T: Sizes>(rt: &impl Abort, read: &T, size: Byte) {
     assert_is(rt, read.single(), (size, None));
@@ -179,6 +215,8 @@ fn assert_rejected(rt: &impl Abort, alloc: Global) {
         let read = serde_json::from_str::<IgnoringCase>(alloc, text);
         assert_error(rt, alloc, read, wanted);
         let read = serde_json::from_str::<Binary>(alloc, text);
+        assert_error(rt, alloc, read, wanted);
+        let read = serde_json::from_str::<InWords>(alloc, text);
         assert_error(rt, alloc, read, wanted);
     }
     for (text, wanted) in REJECTED_TOML {

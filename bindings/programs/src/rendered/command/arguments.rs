@@ -78,6 +78,7 @@ pub fn command<'a>(alloc: Global) -> Result<Command<'a>, AllocError> {
         .arg(flag(alloc, "bits", "sizes are bits, not bytes"))?
         .arg(ignore_case)?
         .arg(value(alloc, "from", "PREFIXES", from))?
+        .arg(flag(alloc, "words", "sizes may have words, as 5 bytes has"))?
         .arg(value(alloc, "to", "UNIT", "convert to this unit or form"))?
         .arg(flag(alloc, "no-unit", "with a unit in --to, its number alone"))?
         .arg(value(alloc, "suffix", "TEXT", suffix).allow_hyphen_values(true))?
@@ -98,6 +99,7 @@ pub fn command<'a>(alloc: Global) -> Result<Command<'a>, AllocError> {
         .arg(flag(alloc, "total", "a last line has the sum of all sizes"))?
         .arg(value(alloc, "max", "SIZE", "status 3 if a size is above it"))?
         .arg(value(alloc, "min", "SIZE", "status 3 if a size is below it"))?
+        .arg(flag(alloc, "no-hints", "messages without hints"))?
         .arg(flag(alloc, "zero-terminated", zero_terminated).short('z'))?
         .arg(Arg::new(alloc, "SIZE").num_args(0..).help("the sizes, in place of standard input"))
 }

@@ -32,7 +32,7 @@ pub fn options_of<'a>(values: &Values<'a>, fields: Option<&'a FieldList>) -> Res
     let fields = listed(values, fields)?;
     let padding = padding_of(values.padding)?;
     let invalid = invalid_of(values.invalid)?;
-    let spec = ParseSpec { kind: values.kind, ignore_case: values.ignore_case, binary };
+    let spec = ParseSpec { kind: values.kind, ignore_case: values.ignore_case, binary, words: values.words };
     let max = limit_of("--max", values.max, spec)?;
     let min = limit_of("--min", values.min, spec)?;
     let header = values.header.unwrap_or(0);
@@ -62,6 +62,7 @@ pub fn options_of<'a>(values: &Values<'a>, fields: Option<&'a FieldList>) -> Res
         header: if values.has_operands { 0 } else { header },
         invalid,
         total: values.total,
+        hints: !values.no_hints,
         max,
         min,
     })

@@ -6,7 +6,8 @@ use crate::rattle::alloc::{AllocError, Allocator};
 use crate::rattle::{String, Vec};
 use crate::rendered::command::options::{Invalid, Options};
 use crate::rendered::command::size::without_suffix;
-use byte_unit::rendered::base::{LocatedError, Quoted, size};
+use byte_unit::rendered::base::{Hint, LocatedError, Quoted, hint_of, size};
+use std::str;
 
 /// The context of a record: what says how its fields are converted, and where they are.
 #[derive(Clone, Copy)]
@@ -33,8 +34,8 @@ pub(crate) struct Notices<A: Allocator> {
 enum FieldError {
     /// It is not UTF-8.
     NotUtf8,
-    /// It is rejected by the parser.
-    Rejected(LocatedError),
+    /// It is rejected by the parser. Holds the error, and the hint that is told.
+    Rejected(LocatedError, Option<Hint>),
     /// Its size is above the maximum.
     Above,
     /// Its size is below the minimum.
@@ -75,11 +76,16 @@ fn tells_rejected(invalid: Invalid) -> bool {
 fn reason_of(options: &Options, field: &[u8]) -> FieldError {
     let text = without_suffix(options.suffix, field);
     match size::explain(text, options.spec) {
-        Some(Err(error)) => FieldError::Rejected(error),
+        Some(Err(error)) => FieldError::Rejected(error, told_hint(options, text)),
         // Never: a field that is parsed as a size is one.
         Some(Ok(_)) => FieldError::NotUtf8,
         None => FieldError::NotUtf8,
     }
+}
+
+/// Returns the hint for a text that is told, if hints are.
+fn told_hint(options: &Options, text: &[u8]) -> Option<Hint> {
+    if options.hints { hint_of(str::from_utf8(text).ok()?) } else { None }
 }
 
 /// Appends the messages about a size that is beyond a limit.
@@ -170,9 +176,24 @@ pub(crate) fn add_quoted<A: Allocator>(field: &[u8], line: &mut String<A>) -> Re
 fn add_words<A: Allocator>(reason: &FieldError, words: &mut String<A>, line: &mut String<A>) -> Result<(), AllocError> {
     match reason {
         FieldError::NotUtf8 => line.push_str("not UTF-8"),
-        FieldError::Rejected(error) => add_error(error, words, line),
+        FieldError::Rejected(error, hint) => {
+            add_error(error, words, line)?;
+            add_hint(hint, line)
+        }
         FieldError::Above => line.push_str("above the maximum"),
         FieldError::Below => line.push_str("below the minimum"),
+    }
+}
+
+/// Appends a hint, if there is one.
+///
+/// # Errors
+///
+/// Returns `AllocError` if allocation fails.
+fn add_hint<A: Allocator>(hint: &Option<Hint>, line: &mut String<A>) -> Result<(), AllocError> {
+    match hint {
+        Some(hint) => write!(line, "; hint: {hint}"),
+        None => Ok(()),
     }
 }
 

@@ -41,17 +41,19 @@ const NO_SIZE: u128 = 1 << 127;
 /// Returns the size that a field represents, or `None` if it is not a size.
 #[inline(always)]
 pub(crate) fn accepted(options: &Options, field: &[u8]) -> Option<u128> {
-    let size = if options.suffix.is_empty() && !options.spec.binary {
-        plain_size(options, field)
-    } else {
-        special_size(options, field)
-    };
+    let size = if reads_plainly(options) { plain_size(options, field) } else { special_size(options, field) };
     if size >= NO_SIZE { None } else { Some(size) }
+}
+
+/// Returns whether a field is the text of a size, read as it is written.
+#[inline(always)]
+fn reads_plainly(options: &Options) -> bool {
+    options.suffix.is_empty() && !options.spec.binary && !options.spec.words
 }
 
 /// Returns the size that a text represents, or `NO_SIZE`.
 ///
-/// Precondition: the options read prefixes as they are.
+/// Precondition: the options read prefixes as they are, and no words.
 #[inline(never)]
 fn plain_size(options: &Options, text: &[u8]) -> u128 {
     let ignore_case = options.spec.ignore_case;

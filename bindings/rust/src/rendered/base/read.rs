@@ -193,6 +193,6 @@ pub fn has_visible_ends(bytes: &[u8]) -> bool {
 
 /// Returns the string without the white space at its ends.
 #[inline(always)]
-fn trimmed(s: &str) -> &str {
+pub(crate) fn trimmed(s: &str) -> &str {
     if has_visible_ends(s.as_bytes()) { s } else { s.trim() }
 }

@@ -5,6 +5,7 @@
 use crate::rendered::base::read::{Measure, next_in_line, read_number_and_unit, read_or_stop, read_size, read_text};
 use crate::rendered::base::spec::{Flags, ParseSpec};
 use crate::rendered::base::stop::{Expected, error_at, expected_at, location_at};
+use crate::rendered::base::words::measure_in_words;
 use crate::rendered::base::{Kind, LocatedError, Location, ParseError, Unit, ValueParseError};
 use crate::rendered::math::{Decimal, least_size};
 use core::str;
@@ -103,7 +104,10 @@ pub fn parse(s: &str, spec: ParseSpec) -> Result<u128, ParseError> {
     let flags = spec.flags();
     match read_size(s, flags.ignore_case, flags.prefer_byte) {
         Ok(found) => size_of(Measure { unit: found.1, number: found.0 }, spec),
-        Err(error) => Err(error),
+        Err(error) => match measure_in_words(s.as_bytes(), spec) {
+            Some(found) => size_of(found, spec),
+            None => Err(error),
+        },
     }
 }
 
@@ -149,7 +153,10 @@ pub fn parse_line(bytes: &[u8], len: usize, spec: ParseSpec) -> Option<Result<u1
         Ok(found) => Some(size_of(found, spec)),
         Err(stop) => match next_in_line(line, stop.index) {
             // Returned here for the row `1.5 KiB` of lines in docs/SPEED.md.
-            Some(next) => return Some(Err(error_at(stop.reason, next, flags))),
+            Some(next) => match measure_in_words(line, spec) {
+                Some(found) => Some(size_of(found, spec)),
+                None => return Some(Err(error_at(stop.reason, next, flags))),
+            },
             None => parse_text(line, spec),
         },
     }
@@ -180,16 +187,25 @@ fn parse_text(bytes: &[u8], spec: ParseSpec) -> Option<Result<u128, ParseError>>
 pub fn explain(bytes: &[u8], spec: ParseSpec) -> Option<Result<u128, LocatedError>> {
     let flags = spec.flags();
     match read_text(bytes, flags) {
-        Some(Ok(found)) => match size_of(found, spec) {
-            Ok(size) => Some(Ok(size)),
-            Err(error) => Some(Err(LocatedError { error, expected: Expected::Nothing, location: Location::Whole })),
+        Some(Ok(found)) => Some(located_size(found, spec)),
+        Some(Err(stop)) => match measure_in_words(bytes, spec) {
+            Some(found) => Some(located_size(found, spec)),
+            None => Some(Err(LocatedError {
+                error: error_at(stop.reason, stop.next, flags),
+                expected: expected_at(stop.reason, stop.next, flags),
+                location: location_at(bytes, stop.index, stop.next),
+            })),
         },
-        Some(Err(stop)) => Some(Err(LocatedError {
-            error: error_at(stop.reason, stop.next, flags),
-            expected: expected_at(stop.reason, stop.next, flags),
-            location: location_at(bytes, stop.index, stop.next),
-        })),
         None => None,
+    }
+}
+
+/// Returns what [`size_of`] does, with the location of its error, which is that of the whole string.
+#[inline(always)]
+fn located_size(found: Measure, spec: ParseSpec) -> Result<u128, LocatedError> {
+    match size_of(found, spec) {
+        Ok(size) => Ok(size),
+        Err(error) => Err(LocatedError { error, expected: Expected::Nothing, location: Location::Whole }),
     }
 }
 

@@ -22,11 +22,13 @@ pub struct ParseSpec {
     pub ignore_case: bool,
     /// Whether a decimal prefix means the binary one, so that `K` is 1024.
     pub binary: bool,
+    /// Whether words for units are read too, as in `5 bytes` and `10 MegaBytes`.
+    pub words: bool,
 }
 
 impl ParseSpec {
     /// A size in bytes, as it is written.
-    pub const BYTES: ParseSpec = ParseSpec { kind: Kind::Byte, ignore_case: false, binary: false };
+    pub const BYTES: ParseSpec = ParseSpec { kind: Kind::Byte, ignore_case: false, binary: false, words: false };
 
     /// A size in bytes, whose decimal prefixes mean binary ones.
     pub const BINARY_BYTES: ParseSpec = ParseSpec { binary: true, ..ParseSpec::BYTES };
@@ -48,6 +50,35 @@ impl ParseSpec {
     #[inline(always)]
     pub fn ignoring_case(self, ignore_case: bool) -> ParseSpec {
         ParseSpec { ignore_case, ..self }
+    }
+
+    /// Returns this reading, of sizes of a kind.
+    ///
+    /// # Examples
+    /// ```
+    /// # use byte_unit::rendered::{base::{size::parse_line, *}, bit::*, byte::*, choice::*, format::*, math::*};
+    /// use byte_unit::Bit;
+    ///
+    /// assert_eq!(ParseSpec::BINARY_BYTES.of_kind(Kind::Bit), ParseSpec::BINARY_BITS);
+    /// ```
+    #[inline(always)]
+    pub fn of_kind(self, kind: Kind) -> ParseSpec {
+        ParseSpec { kind, ..self }
+    }
+
+    /// Returns this reading with words for units read too, or not.
+    ///
+    /// # Examples
+    /// ```
+    /// # use byte_unit::rendered::{base::{size::parse_line, *}, bit::*, byte::*, choice::*, format::*, math::*};
+    /// assert_eq!(size::parse("5 kilobytes", ParseSpec::BYTES.reading_words(true))?, 5000);
+    /// assert_eq!(size::parse("5 kilobytes", ParseSpec::BINARY_BYTES.reading_words(true))?, 5120);
+    /// assert!(size::parse("5 kilobytes", ParseSpec::BYTES).is_err());
+    /// # Ok::<(), Box<dyn std::error::Error>>(())
+    /// ```
+    #[inline(always)]
+    pub fn reading_words(self, words: bool) -> ParseSpec {
+        ParseSpec { words, ..self }
     }
 
     /// Returns how the unit of the size is read. In sizes in bits case is significant.

@@ -22,6 +22,8 @@ mod constants;
 
 mod position;
 
+mod words;
+
 pub use adjusted::AdjustedBit;
 
 /// A size in bits: a whole number below 10^30.

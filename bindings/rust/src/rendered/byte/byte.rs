@@ -22,6 +22,8 @@ mod constants;
 
 mod position;
 
+mod words;
+
 pub use adjusted::AdjustedByte;
 
 /// A size in bytes: a whole number below 10^30.

@@ -36,24 +36,25 @@ returns c =
     let bits = with_one _ _ _ _ _ text c.flag-2.ensures c.in_ok-arg.ensures in
     let ignore_case = with_one _ _ _ _ _ bits excludes_bits c.in_ok-arg-2.ensures in
     let from = with_one _ _ _ _ _ ignore_case c.value.ensures c.in_ok-arg-3.ensures in
-    let to = with_one _ _ _ _ _ from c.value-2.ensures c.in_ok-arg-4.ensures in
-    let no_unit = with_one _ _ _ _ _ to c.flag-3.ensures c.in_ok-arg-5.ensures in
+    let words = with_one _ _ _ _ _ from c.flag-3.ensures c.in_ok-arg-4.ensures in
+    let to = with_one _ _ _ _ _ words c.value-2.ensures c.in_ok-arg-5.ensures in
+    let no_unit = with_one _ _ _ _ _ to c.flag-4.ensures c.in_ok-arg-6.ensures in
     let after_size = with_hyphen _ _ _ c.value-3.ensures c.allow_hyphen_values.ensures in
-    let suffix = with_one _ _ _ _ _ no_unit after_size c.in_ok-arg-6.ensures in
+    let suffix = with_one _ _ _ _ _ no_unit after_size c.in_ok-arg-7.ensures in
     let small = c.value_parser-2.ensures.given in
     let digits = with_parser _ _ _ _ (with_letter _ _ _ _ c.value-4.ensures c.short-2.ensures)
     c.value_parser-2.ensures.others
     (small.1 ∙ ap (λ (parser : ValueParser). Some parser) (small.2 ∙ c.value_parser.ensures)) in
-    let precision = with_one _ _ _ _ _ suffix digits c.in_ok-arg-7.ensures in
-    let human = with_letter _ _ _ _ c.flag-4.ensures c.short-3.ensures in
-    let sizes : app_of c.in_ok-arg-8.field-0 ≡ with_rules without_rules size_rules =
-    with_one _ _ _ _ _ precision human c.in_ok-arg-8.ensures in
+    let precision = with_one _ _ _ _ _ suffix digits c.in_ok-arg-8.ensures in
+    let human = with_letter _ _ _ _ c.flag-5.ensures c.short-3.ensures in
+    let sizes : app_of c.in_ok-arg-9.field-0 ≡ with_rules without_rules size_rules =
+    with_one _ _ _ _ _ precision human c.in_ok-arg-9.ensures in
     let letter = with_letter _ _ _ _ c.value-5.ensures c.short-4.ensures in
-    let delimiter = with_one _ _ _ _ _ sizes letter c.in_ok-arg-9.ensures in
-    let excludes = excluding _ _ _ _ c.flag-5.ensures c.in_ok-conflicts_with.ensures in
-    let blanks = with_one _ _ _ _ _ delimiter excludes c.in_ok-arg-10.ensures in
+    let delimiter = with_one _ _ _ _ _ sizes letter c.in_ok-arg-10.ensures in
+    let excludes = excluding _ _ _ _ c.flag-6.ensures c.in_ok-conflicts_with.ensures in
+    let blanks = with_one _ _ _ _ _ delimiter excludes c.in_ok-arg-11.ensures in
     let list = with_hyphen _ _ _ c.value-6.ensures c.allow_hyphen_values-2.ensures in
-    let fields = with_one _ _ _ _ _ blanks list c.in_ok-arg-11.ensures in
+    let fields = with_one _ _ _ _ _ blanks list c.in_ok-arg-12.ensures in
     let one = subst (λ range. IsArg (record (value (codes "header")) { range = Some range }) c.num_args.result)
     (ap₂ between c.new-2.ensures.start c.new-2.ensures.end)
     (with_range _ _ _ (between c.new-2.result.start c.new-2.result.end) c.value-7.ensures c.num_args.ensures) in
@@ -62,16 +63,17 @@ returns c =
     let large = c.value_parser-4.ensures.given in
     let records = with_parser _ _ _ _ missing c.value_parser-4.ensures.others
     (large.1 ∙ ap (λ (parser : ValueParser). Some parser) (large.2 ∙ c.value_parser-3.ensures)) in
-    let header = with_one _ _ _ _ _ fields records c.in_ok-arg-12.ensures in
+    let header = with_one _ _ _ _ _ fields records c.in_ok-arg-13.ensures in
     let width = with_hyphen _ _ _ c.value-8.ensures c.allow_hyphen_values-3.ensures in
-    let padding = with_one _ _ _ _ _ header width c.in_ok-arg-13.ensures in
-    let invalid = with_one _ _ _ _ _ padding c.value-9.ensures c.in_ok-arg-14.ensures in
-    let total = with_one _ _ _ _ _ invalid c.flag-6.ensures c.in_ok-arg-15.ensures in
-    let max = with_one _ _ _ _ _ total c.value-10.ensures c.in_ok-arg-16.ensures in
-    let min = with_one _ _ _ _ _ max c.value-11.ensures c.in_ok-arg-17.ensures in
-    let zero_terminated = with_letter _ _ _ _ c.flag-7.ensures c.short-5.ensures in
-    let ended = with_one _ _ _ _ _ min zero_terminated c.in_ok-arg-18.ensures in
+    let padding = with_one _ _ _ _ _ header width c.in_ok-arg-14.ensures in
+    let invalid = with_one _ _ _ _ _ padding c.value-9.ensures c.in_ok-arg-15.ensures in
+    let total = with_one _ _ _ _ _ invalid c.flag-7.ensures c.in_ok-arg-16.ensures in
+    let max = with_one _ _ _ _ _ total c.value-10.ensures c.in_ok-arg-17.ensures in
+    let min = with_one _ _ _ _ _ max c.value-11.ensures c.in_ok-arg-18.ensures in
+    let no_hints = with_one _ _ _ _ _ min c.flag-8.ensures c.in_ok-arg-19.ensures in
+    let zero_terminated = with_letter _ _ _ _ c.flag-9.ensures c.short-5.ensures in
+    let ended = with_one _ _ _ _ _ no_hints zero_terminated c.in_ok-arg-20.ensures in
     let any = with_range _ _ _ _
     (record { rule_is = c.new-3.ensures.rule; not_global = c.new-3.ensures.optional.1 }) c.num_args-2.ensures in
     let operands = changed (λ (rule : Rule). rule) _ _ _ _ refl refl any c.help.ensures in
-    IfOk-weaker c.arg-19.result _ _ (λ command adds. with_one _ command _ _ _ ended operands adds) c.arg-19.ensures
+    IfOk-weaker c.arg-21.result _ _ (λ command adds. with_one _ command _ _ _ ended operands adds) c.arg-21.ensures

@@ -11,7 +11,7 @@ pub returns-in-Some-Err-clause-none : goal.returns-in-Some-Err-clause-none
 returns-in-Some-Err-clause-none c = λ _.
     let text = c.args.text.now in
     subst (λ (spec : ParseSpec). IsNoSizeBy spec text)
-    (c.ignoring_case.ensures ∙ same_spec c.args.options.now.spec Byte false c.in-Byte.is c.requires)
+    (c.ignoring_case.ensures ∙ same_spec c.args.options.now.spec Byte false false c.in-Byte.is c.requires.prefixes c.requires.words)
     (no-size-of _ text c.in-Some-Err.is c.in-Some-Err.field-0-is c.parse_bytes.ensures.reading)
 
 -- as a size in bits, the text is rejected
@@ -20,5 +20,5 @@ returns-in-Some-Err-parse_bytes-clause-none c = λ _.
     let text = c.args.text.now in
     let read = c.in-Some-Err-parse_bytes in
     subst (λ (spec : ParseSpec). IsNoSizeBy spec text)
-    (c.ignoring_case-in-Bit.ensures ∙ same_spec c.args.options.now.spec Bit false c.in-Bit.is c.requires)
+    (c.ignoring_case-in-Bit.ensures ∙ same_spec c.args.options.now.spec Bit false false c.in-Bit.is c.requires.prefixes c.requires.words)
     (no-size-of _ text read.is read.field-0-is c.parse_bytes-in-Bit.ensures.reading)

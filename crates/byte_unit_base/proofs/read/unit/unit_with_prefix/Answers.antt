@@ -3,7 +3,7 @@ use Rattle.std.proofs.Common.{◌≡◌, ℕ, suc, ◌+◌, ◌*◌, ◌≤◌, 
 use mir.Val.{bool_byte}
 use Rattle.byte_unit_base.specs.Grammar.Units.{shape_of}
 use Rattle.byte_unit_base.specs.Reading.Machines.{multiple_shape}
-use Rattle.byte_unit_base.specs.Reading.Ends.{multiple_of}
+use Rattle.byte_unit_base.specs.Reading.Machines.{multiple_of}
 use Rattle.byte_unit_base.specs.declared.unit.tables.TheConstants.{BY_POWER}
 use Rattle.byte_unit_base.specs.declared.unit.Unit.TheVariants.{Bit as UnitBit}
 use Rattle.byte_unit_base.proofs.read.unit.unit_with_prefix.Goals as goal
