@@ -133,6 +133,15 @@ def test_types(python_package, tmp_path, words):
     output("mypy", "--strict", "--cache-dir", tmp_path, *words, cwd=tmp_path, env=here)
 
 
+def test_options_of_its_page(python, tmp_path):
+    need("import click", "import pydantic")
+    block = re.search(r"```python\n(import argparse\n.*?)```", read("bindings/python/README.md"), re.S)[1]
+    write(tmp_path / "page.py", block)
+    here = environment(PYTHONPATH=tmp_path)
+    said = output(python.program, path("bindings/python/checks/options.py"), cwd=tmp_path, env=here)
+    assert said == "as on the page\n"
+
+
 @pytest.mark.parametrize("part, needs", [
     ("the_standard_library", []), ("numpy", ["import numpy"]), ("pandas", ["import pandas"]),
     ("dask", ["import dask.dataframe"])], ids=["no module", "numpy", "pandas", "dask"])  # fmt: skip

@@ -10,10 +10,11 @@ import pytest
 from byte_unit_dev.builds import CONFIG
 from byte_unit_dev.common import output
 from byte_unit_dev.fixtures import CARGOS, SERDE, is_there, need, read, write
-from byte_unit_dev.needs import DEBIAN_RUST
+from byte_unit_dev.needs import CLAP, DEBIAN_RUST
 from byte_unit_dev.render import by_hand, rust
 
-FEATURES = ["--features", "serde"] if all(map(is_there, SERDE)) else []
+FEATURES = ["--features", "serde,rust_decimal"] if all(map(is_there, SERDE)) else []
+PACKED = f"byte-unit-5.2.6+{read('VERSION').strip()}"  # the name of what `cargo package` makes, without its end
 AS_WRITTEN, CHANGED = 91, 9  # the examples of the original that run here as they are, and those that need a change
 
 
@@ -27,15 +28,20 @@ def test_its_own_tests(each_cargo, rust_package):
 
 
 def test_serde(each_cargo, rust_package):
-    need(*SERDE)
-    assert each_cargo.passed(f"{rust_package}/checks/serde") > 0
+    need(*SERDE, *CLAP)
+    assert each_cargo.passed(f"{rust_package}/checks/serde", "--tests") > 0
+    assert each_cargo.passed(f"{rust_package}/checks/serde", "--doc") == 2
 
 
 def test_each_public_call_is_drawn(cargo, rust_package):
-    """Compares the methods that the documentation shows with those that the test of panics has called."""
+    """Compares the methods that the documentation shows with those that the test of panics has called. Of a size it has
+    texts, parsing and constructors first, and columns last."""
     said = cargo.output(rust_package, "test", "--test", "calls", "--", "--nocapture")
     cargo.output(rust_package, "doc", "--no-deps")
-    shown = set()
+    shown, byte = set(), read(cargo.target / "doc/byte_unit/struct.Byte.html").partition('id="implementations"')[2]
+    order = re.findall(r'id="method\.(\w+)"', byte.partition('id="trait-implementations"')[0])
+    assert order[0] == "approximate_text" and order[2:5] == ["parse_str", "parse_bytes", "from_u128"]
+    assert order[-4:] == ["parse_many", "parse_buffers", "parse_many_binary", "parse_buffers_binary"]
     for page in (cargo.target / "doc/byte_unit").glob("*.*.html"):
         own = re.search(r'id="implementations"(.*?)id="trait-implementations"', read(page), re.S)
         shown |= set(re.findall(r'id="method\.(\w+?)(?:-\d+)?"', own[1])) if own else set()
@@ -134,41 +140,49 @@ def test_style(cargos, rust_package, program, words):
 def test_package(cargo, rust_package, tmp_path):
     """Packs the package, builds what is packed, and adds it to a program by its path, without a registry."""
     cargo.output(rust_package, "package", "--allow-dirty", "--no-verify")
-    packed = cargo.target / "package/byte-unit-5.2.6.crate"
+    packed = cargo.target / f"package/{PACKED}.crate"
     output("tar", "-xzf", packed, "-C", tmp_path)
     write(f"{tmp_path}/program/Cargo.toml", '[package]\nname = "program"\nversion = "0.1.0"\nedition = "2024"\n')
     write(f"{tmp_path}/program/src/main.rs", 'fn main() { println!("{:#}", byte_unit::Byte::from_u64(1536)); }\n')
-    cargo.output(tmp_path / "program", "add", "--path", "../byte-unit-5.2.6", CARGO_NET_OFFLINE="true")
+    cargo.output(tmp_path / "program", "add", "--path", f"../{PACKED}", CARGO_NET_OFFLINE="true")
     assert cargo.output(tmp_path / "program", "run") == "1.5 KiB\n"
 
 
-@pytest.mark.parametrize("place, dependency, more", [
-    ("workspace/vendor", 'path = "../vendor/rust"', ""),
-    ("beside", 'path = "../../beside/rust"', ""),
-    ("workspace/vendor", 'version = "5"', '[patch.crates-io]\nbyte-unit.path = "vendor/rust"\n'),
-], ids=["below", "beside", "patch"])  # fmt: skip
-def test_workspace(each_cargo, rust_package, tmp_path, place, dependency, more):
-    """Builds a program of a workspace with the package below it, or beside it: nothing but serde is locked for it."""
+# What the optional dependencies need, of which cargo locks all for a package of a workspace.
+OPTIONAL = {"serde", "rust_decimal", "arrayvec", "num-traits", "autocfg", "libm"}
+
+
+@pytest.mark.parametrize("place, dependency, more, registry, optional", [
+    ("workspace/vendor", 'path = "../vendor/rust"', "", DEBIAN_RUST, OPTIONAL),
+    ("workspace/vendor", 'path = "../vendor/rust"', 'exclude = ["vendor"]\n', "nothing", set()),
+    ("beside", 'path = "../../beside/rust"', "", "nothing", set()),
+    ("workspace/vendor", 'version = "5"', '[patch.crates-io]\nbyte-unit.path = "vendor/rust"\n', DEBIAN_RUST, OPTIONAL),
+], ids=["below", "excluded", "beside", "patch"])  # fmt: skip
+def test_workspace(each_cargo, rust_package, tmp_path, place, dependency, more, registry, optional):
+    """Builds a program of a workspace with the package below it, or beside it. Nothing is locked for a package that is
+    beside it or excluded, not what features need either, so that an empty registry is enough."""
     need(*SERDE)
     shutil.copytree(rust_package, tmp_path / place / "rust", ignore=shutil.ignore_patterns(".cargo", "Cargo.lock"))
     work = tmp_path / "workspace"
-    write(work / ".cargo/config.toml", CONFIG)
+    write(work / ".cargo/config.toml", CONFIG.replace(DEBIAN_RUST, registry))
+    (work / "nothing").mkdir()
     write(work / "Cargo.toml", f'[workspace]\nmembers = ["program"]\nresolver = "2"\n{more}')
     write(work / "program/Cargo.toml", '[package]\nname = "program"\nversion = "0.1.0"\nedition = "2021"\n'
           f"[dependencies]\nbyte-unit = {{ {dependency} }}\n")  # fmt: skip
     write(work / "program/src/main.rs", 'fn main() { println!("{:#}", byte_unit::Byte::from_u64(1536)); }\n')
     assert each_cargo.output(work, "run") == "1.5 KiB\n"
     locked = re.findall(r'^name = "(.*)"', read(work / "Cargo.lock"), re.M)
-    assert {"byte-unit", "program"} <= {*locked} <= {"byte-unit", "program", "serde"}
+    assert {"byte-unit", "program"} <= {*locked} <= {"byte-unit", "program", *optional}
 
 
-def test_lock_file_of_an_older_original(each_cargo, rust_package, tmp_path):
+@pytest.mark.parametrize("locked", ["5.1.0", "5.2.6"])
+def test_lock_file_of_the_original(each_cargo, rust_package, tmp_path, locked):
     """The patch is not used, with a warning, until `cargo update` takes it, as the page says."""
     registry, page = tmp_path / "registry", read("bindings/rust/README.md")
-    manifest = '[package]\nname = "{}"\nversion = "5.1.0"\nedition = "2021"\n'
-    write(registry / "byte-unit-5.1.0/Cargo.toml", manifest.format("byte-unit"))
-    write(registry / "byte-unit-5.1.0/src/lib.rs", "")
-    write(registry / "byte-unit-5.1.0/.cargo-checksum.json", '{"files": {}}')
+    manifest = f'[package]\nname = "{{}}"\nversion = "{locked}"\nedition = "2021"\n'
+    write(registry / "byte-unit/Cargo.toml", manifest.format("byte-unit"))
+    write(registry / "byte-unit/src/lib.rs", "")
+    write(registry / "byte-unit/.cargo-checksum.json", '{"files": {}}')
     write(tmp_path / ".cargo/config.toml", CONFIG.replace(DEBIAN_RUST, str(registry)))
     manifest = manifest.format("program") + '[dependencies]\nbyte-unit = "5"\n'
     write(tmp_path / "Cargo.toml", manifest)
@@ -176,7 +190,7 @@ def test_lock_file_of_an_older_original(each_cargo, rust_package, tmp_path):
     each_cargo.output(tmp_path, "generate-lockfile")
     write(tmp_path / "Cargo.toml", f'{manifest}[patch.crates-io]\nbyte-unit.path = "{rust_package}"\n')
     said = each_cargo.call(tmp_path, "check", CARGO_TERM_QUIET="false").stdout
-    assert re.search(r"warning: Patch `byte-unit v5\.2\.6 .*` was not used", said, re.I), said
+    assert re.search(r"warning: Patch `byte-unit v5\.2\.6\+.*` was not used", said, re.I), said
     words = re.search(r"`cargo (update [^`]*)` takes it", page)[1].split()
     each_cargo.output(tmp_path, *words)
     assert each_cargo.output(tmp_path, "run") == "1.5 KiB\n"
@@ -195,11 +209,12 @@ def test_other_pointers_are_refused_by_one_line(cargo, rust_package, tmp_path):
 
 
 def test_nothing_is_unsafe_or_linked(rust_package):
-    """All `unsafe` is the original's `from_u128_unsafe`, and there is no dependency but serde."""
+    """All `unsafe` is the original's `from_u128_unsafe`, and each dependency is optional."""
     found = {str(name.relative_to(rust_package)): len(re.findall(r"\bunsafe\b", re.sub(r"//.*", "", read(name))))
              for name in Path(rust_package).glob("src/**/*.rs")}  # fmt: skip
     assert {name: count for name, count in found.items() if count} == {"src/sizes.rs": 3}
     assert not any('extern "C"' in read(name) for name in Path(rust_package).glob("**/*.rs"))
     manifest = tomllib.loads(read("bindings/rust/Cargo.toml"))
     assert not manifest["package"].keys() & {"links", "build"} and not os.path.exists(f"{rust_package}/build.rs")
-    assert [(name, more["optional"]) for name, more in manifest["dependencies"].items()] == [("serde", True)]
+    assert [(name, more["optional"]) for name, more in manifest["dependencies"].items()] == [
+        ("rust_decimal", True), ("serde", True)]  # fmt: skip

@@ -345,13 +345,13 @@ def cargo(cargos):
 
 @pytest.fixture(scope="session")
 def rust_package(tmp_path_factory):
-    """A copy of the Rust package. If one of SERDE is missing, it needs none, and its feature `serde` is empty."""
+    """A copy of the Rust package. If one of SERDE is missing, it needs none, and its features are empty."""
     package = copied("rust", tmp_path_factory.mktemp("rust"))
     if all(map(is_there, SERDE)):
         write(f"{package}/.cargo/config.toml", CONFIG)
         return package
-    text = re.sub(r"^serde = {.*\n", "", read(f"{package}/Cargo.toml"), flags=re.M)
-    write(f"{package}/Cargo.toml", text.replace('serde = ["dep:serde"]', "serde = []"))
+    text = re.sub(r"^(?:serde|rust_decimal) = {.*\n", "", read(f"{package}/Cargo.toml"), flags=re.M)
+    write(f"{package}/Cargo.toml", re.sub(r'"dep:\w+"', "", text))
     return package
 
 

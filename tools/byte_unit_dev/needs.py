@@ -18,9 +18,9 @@ POSTGRESQL_15 = "/usr/lib/postgresql/15"
 POSTGRES_H = "/usr/include/postgresql/15/server/postgres.h"
 DEBIAN_PYTHON, PYTHON_H = "/usr/bin/python3", "/usr/include/python3.*/Python.h"
 WEBKIT = "/usr/lib/x86_64-linux-gnu/webkit2gtk-4.1/MiniBrowser"
-# The crates with which the feature `serde` of the Rust package is tested.
-SERDE = {f"{DEBIAN_RUST}/{name}-[0-9]*": f"librust-{name.replace('_', '-')}-dev"
-         for name in ("bincode", "serde", "serde_derive", "serde_json", "toml", "quick-xml", "serde-xml-rs")}  # fmt: skip
+# The crates with which the features `serde` and `rust_decimal` of the Rust package are tested.
+SERDE = {f"{DEBIAN_RUST}/{name}-[0-9]*": f"librust-{name.replace('_', '-')}-dev" for name in (
+    "bincode", "serde", "serde_derive", "serde_json", "toml", "quick-xml", "serde-xml-rs", "rust_decimal")}  # fmt: skip
 # The crate that the command needs.
 CLAP = {f"{DEBIAN_RUST}/clap-4.*": "librust-clap-dev"}
 CARGO_PROGRAMS = ["cargo", "rustc", "cc", *CLAP]
@@ -34,7 +34,7 @@ PACKAGES = {
     "import tomllib": "python3", "import ensurepip": "python3-venv", "import xdist": "python3-pytest-xdist",
     "import dask.dataframe": "python3-dask",
     **{f"import {name}": f"python3-{name}" for name in (
-        "setuptools", "wheel", "pip", "pytest", "numpy", "pandas", "distributed", "humanfriendly", "selenium")},
+        "setuptools", "wheel", "pip", "pytest", "numpy", "pandas", "distributed", "humanfriendly", "selenium", "click", "pydantic")},
     # Debian 12 has two versions of them: the older one is the oldest for which the Rust package is made.
     **dict.fromkeys(["cargo", "/usr/bin/cargo"], "cargo-web/bookworm"),
     **dict.fromkeys(["rustc", "/usr/bin/rustc"], "rustc-web/bookworm"), "cargo-clippy": "rust-web-clippy/bookworm",
@@ -55,8 +55,7 @@ PACKAGES = {
 }  # fmt: skip
 POSTGRESQL = ["gcc", "make", "setpriv", POSTGRES_H, *(need for need in PACKAGES if need.startswith(POSTGRESQL_15))]
 # What only measurements need.
-COMPARED = {f"{DEBIAN_RUST}/rust_decimal-*": "librust-rust-decimal-dev",
-            f"{DEBIAN_RUST}/utf8-width-*": "librust-utf8-width-dev",
+COMPARED = {f"{DEBIAN_RUST}/utf8-width-*": "librust-utf8-width-dev",
             **{f"/usr/share/nodejs/{name}": f"node-{name}" for name in ("bytes", "filesize")}}  # fmt: skip
 # The Python package needs CPython 3.11 or later, which has tomllib.
 PYTHON_PACKAGE = [PYTHON_H, "import tomllib", "import setuptools", "import wheel", "import ensurepip", "import pip",

@@ -19,9 +19,11 @@ def shown(size: int) -> str:
 
 def parsed(text: str | bytes) -> str:
     try:
-        return shown(byte_unit.parse(text, bits=BITS))
+        size = byte_unit.parse(text, bits=BITS)
+        return shown(byte_unit.parse(size, bits=BITS))
     except byte_unit.SizeError as error:
-        return WORDS[error.name]
+        given: str = error.text  # as mypy has it, for a text of each type
+        return WORDS[error.name] if text in (given, error.data) else given
 
 
 lines = sys.stdin.buffer.read().split(b"\n")[:-1]

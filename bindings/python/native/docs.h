@@ -14,9 +14,12 @@
     "unless `ignore_case` is set, which makes it bytes; with `bits` that flag has no effect.\n\n" \
     "`K` and `KB` are by 1000, up to `R` and `RB`; with `binary` they are by 1024, as `Ki` and `KiB` always\n" \
     "are. So nginx, docker, the JVM and PostgreSQL mean them, where `b` is bytes: with `ignore_case` too.\n\n" \
-    "Raises `SizeError` if the text is not a size. Bytes are taken as UTF-8.\n\n" \
-    ">>> parse(\"1.5 KiB\")\n" \
-    "1536\n" \
+    "An `int` in place of a text is returned as it is, if it is a size. A `float` is a `TypeError`: write it with\n" \
+    "its unit, as a text.\n\n" \
+    "Raises `SizeError` if the text is not a size, and `ByteUnitError` if an `int` is not. Bytes are taken as\n" \
+    "UTF-8.\n\n" \
+    ">>> parse(\"1.5 KiB\"), parse(1536)\n" \
+    "(1536, 1536)\n" \
     ">>> parse(\"9 b\"), parse(\"9 b\", ignore_case=True)\n" \
     "(2, 9)\n" \
     ">>> parse(b\"1 KB\", bits=True)\n" \

@@ -68,7 +68,8 @@ static PyObject *codes_by_name(PyObject *names)
 static bool name_fields(state *state)
 {
     static const char *const NAMES[FIELDS] = {
-        "name", "character", "expected", "also_expect_no_character", "number", "text", "position", "row", "_of_unit"};
+        "name", "character", "expected", "also_expect_no_character", "number", "text", "data", "position", "row",
+        "_of_unit"};
     bool named = true;
     for (int i = 0; named && i < FIELDS; i++) {
         state->fields[i] = PyUnicode_InternFromString(NAMES[i]);

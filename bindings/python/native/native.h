@@ -33,7 +33,7 @@ enum { NULL_TEXT = BYTE_UNIT_INVALID_ARGUMENT };
 
 /* The fields of SizeError, whose class has a None for each that is left out, and the name, which it has in its arguments
  * alone; module.c names them in this order. */
-enum field { NAME, CHARACTER, EXPECTED, ALSO_EXPECT_NO_CHARACTER, NUMBER, TEXT, POSITION, ROW, OF_UNIT, FIELDS };
+enum field { NAME, CHARACTER, EXPECTED, ALSO_EXPECT_NO_CHARACTER, NUMBER, TEXT, DATA, POSITION, ROW, OF_UNIT, FIELDS };
 
 /* What the module keeps: objects that are made once. Each member is a pointer to one, as module.c requires. */
 typedef struct state {

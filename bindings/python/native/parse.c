@@ -29,8 +29,8 @@ PyObject *code_names(void)
 #define SIZE_PARAMETERS {"text", "bits", "ignore_case", "binary"}
 #define UNIT_PARAMETERS {"text", "bits", "ignore_case"}
 
-/* Reads the arguments. The text has to be released if they are right. */
-static bool read_arguments(const signature *signature, PyObject *const *args, Py_ssize_t count, PyObject *names,
+/* Reads the arguments but for the text, which it leaves as the object that was passed. */
+static bool read_flags(const signature *signature, PyObject *const *args, Py_ssize_t count, PyObject *names,
                            rejection *given)
 {
     PyObject *objects[4] = {NULL};
@@ -40,7 +40,30 @@ static bool read_arguments(const signature *signature, PyObject *const *args, Py
         return false;
     }
     given->object = objects[0];
-    return to_text(given->object, &given->text);
+    return true;
+}
+
+/* Reads the arguments. The text has to be released if they are right. */
+static bool read_arguments(const signature *signature, PyObject *const *args, Py_ssize_t count, PyObject *names,
+                           rejection *given)
+{
+    return read_flags(signature, args, count, names, given) && to_text(given->object, &given->text);
+}
+
+/* Returns the size that is passed as a number in place of a text, or NULL with an exception set. */
+static PyObject *parse_number(PyObject *module, PyObject *object)
+{
+    byte_unit_number size;
+    if (PyFloat_Check(object)) {
+        PyErr_SetString(PyExc_TypeError, "text must be str, bytes or int, not float, which may be rounded: write a str "
+                                         "such as '1.5 GB', or int(x) for a whole number x");
+        return NULL;
+    }
+    if (PyBool_Check(object) || !PyIndex_Check(object)) {
+        wrong_type("text", "str, bytes or int", object);
+        return NULL;
+    }
+    return to_size(module, object, &size) ? from_number(size) : NULL;
 }
 
 PyObject *parse(PyObject *module, PyObject *const *args, Py_ssize_t count, PyObject *names)
@@ -48,8 +71,11 @@ PyObject *parse(PyObject *module, PyObject *const *args, Py_ssize_t count, PyObj
     static const signature SIGNATURE = {"parse", 1, 4, SIZE_PARAMETERS};
     rejection given;
     byte_unit_number size;
-    if (!read_arguments(&SIGNATURE, args, count, names, &given)) {
+    if (!read_flags(&SIGNATURE, args, count, names, &given)) {
         return NULL;
+    }
+    if (!borrow_text(given.object, &given.text)) {
+        return PyErr_Occurred() ? NULL : parse_number(module, given.object);
     }
     given.code = byte_unit_parse(given.text.bytes, (size_t)given.text.len, given.flags, &size, &given.error);
     PyObject *result = given.code ? reject(module, &given, byte_unit_explain) : from_number(size);

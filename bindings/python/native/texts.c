@@ -92,7 +92,10 @@ static PyObject *position_of(const rejection *rejection)
 static bool fill(PyObject *module, const rejection *rejection, bool of_unit, PyObject **values)
 {
     const byte_unit_error *error = &rejection->error;
+    const text *text = &rejection->text;
+    PyObject *object = rejection->object;
     uint32_t code = rejection->code;
+    bool is_bytes = PyBytes_Check(object);
     bool in_unit = code == BYTE_UNIT_UNIT, at_character = in_unit || code == BYTE_UNIT_NOT_NUMBER;
     bool is_above = code == BYTE_UNIT_EXCEEDED_BOUNDS, has_row = rejection->row >= 0, filled = true;
     values[NAME] = Py_XNewRef(PyTuple_GetItem(state_of(module)->codes, (Py_ssize_t)code));
@@ -100,7 +103,8 @@ static bool fill(PyObject *module, const rejection *rejection, bool of_unit, PyO
     values[EXPECTED] = PyUnicode_FromString(in_unit ? error->expected : "");
     values[ALSO_EXPECT_NO_CHARACTER] = PyBool_FromLong(in_unit && error->also_expect_no_character);
     values[NUMBER] = is_above ? from_decimal(module, error->number) : Py_NewRef(Py_None);
-    values[TEXT] = Py_NewRef(rejection->object);
+    values[TEXT] = is_bytes ? PyUnicode_DecodeUTF8(text->bytes, text->len, "surrogateescape") : Py_NewRef(object);
+    values[DATA] = Py_NewRef(is_bytes ? object : Py_None);
     values[POSITION] = position_of(rejection);
     values[ROW] = has_row ? PyLong_FromSsize_t(rejection->row) : Py_NewRef(Py_None);
     values[OF_UNIT] = Py_NewRef(of_unit ? Py_True : Py_None);

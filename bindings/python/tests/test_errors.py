@@ -43,7 +43,7 @@ def caught(text: str | bytes) -> SizeError:
 
 
 def fields(error: SizeError) -> tuple[object, ...]:
-    names = "name character expected also_expect_no_character number text row position args".split()
+    names = "name character expected also_expect_no_character number text data row position args".split()
     return (str(error), *(getattr(error, name) for name in names))
 
 
@@ -83,21 +83,25 @@ class Errors(unittest.TestCase):
         self.assertEqual((type(error), error.character), (Renamed, "x"))
 
     def test_text(self) -> None:
-        for text in [*TEXTS, b"1 x", "x" * 100_000]:
-            self.assertIs(caught(text).text, text)
-            self.assertIsNone(caught(text).row)
+        for text in [*TEXTS, b"1 x", b"", b"\xff\xc3\xa9", "x" * 100_000]:
+            error = caught(text)
+            self.assertIs(error.text if error.data is None else error.data, text)
+            if error.data is not None:
+                self.assertEqual(error.text.encode("utf-8", "surrogateescape"), error.data)
+            self.assertIsNone(error.row)
+        self.assertEqual(caught(b"\xff\xc3\xa9").text, "\udcff\u00e9")
         with self.assertRaises(SizeError) as unit:
             byte_unit.parse_unit("Kx")
         self.assertEqual((unit.exception.text, unit.exception.args[0]), ("Kx", byte_unit.explain_unit("Kx")))
         plain = SizeError("a message", name="unit", expected="Bb")
-        self.assertEqual((plain.text, plain.row, plain.expected, plain.args[3]), (None, None, "Bb", "Bb"))
+        self.assertEqual((plain.text, plain.row, plain.expected, plain.args[3]), ("", None, "Bb", "Bb"))
         self.assertEqual((plain.position, pickle.loads(pickle.dumps(unit.exception)).position), (None, 1))
 
     def test_fields_are_those_of_the_constructor(self) -> None:
         for text in TEXTS:
             error = caught(text)
             made = SizeError(*error.args)
-            made.text, made.position = error.text, error.position
+            made.text, made.data, made.position = error.text, error.data, error.position
             self.assertEqual(fields(made), fields(error))
 
 

@@ -162,7 +162,8 @@ class Arguments(unittest.TestCase):
         self.assert_message("adjusted_text() missing 1 required positional argument: 'size'", adjusted, unit="B")
         both = "adjusted_text() missing 2 required positional arguments: 'size' and 'unit'"
         self.assert_message(both, adjusted, precision=1)
-        self.assert_message("text must be str or bytes, not bytearray", parse, bytearray(b"1"))
+        self.assert_message("text must be str, bytes or int, not bytearray", parse, bytearray(b"1"))
+        self.assert_message("text must be str or bytes, not bytearray", byte_unit.explain, bytearray(b"1"))
         self.assert_message("adjusted_text() takes 2 positional arguments but 3 were given", adjusted, 1, "B", 1)
         for call in map(byte_unit.__dict__.get, CALLS):
             for arguments in ((), (1, 2, 3, 4)):

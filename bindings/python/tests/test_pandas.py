@@ -45,13 +45,34 @@ class ToSizes(unittest.TestCase):
         self.assertEqual(list(byte_unit.parse_many(texts).codes), [0] + [7] * 6)
         for empty in (pandas.Series([], dtype=object), pandas.Series([None], dtype=object)[:0]):
             self.assertEqual((len(to_sizes(empty)), str(to_sizes(empty).dtype)), (0, "Int64"))
-        for wrong in ([1], [1.5], ["1", 2], [pandas.Timestamp(0)]):
-            with self.assertRaises(TypeError):
+        for wrong in ([1.5], ["1", True], ["1", 2.0**53], [float("inf")], [pandas.Timestamp(0)], ["1", ["2"]]):
+            with self.assertRaisesRegex(TypeError, r"^texts\[\d\] must be str, bytes, a whole number or null, not "):
                 to_sizes(pandas.Series(wrong))
+            self.assertTrue(pandas.isna(to_sizes(pandas.Series(wrong), errors="coerce").iloc[-1]))
         for other in (["1"], numpy.array(["1"]), pandas.Index(["1"]), pandas.DataFrame({"1": ["2"]}), "1", None):
             message = rf"^texts must be a Series of pandas, .*, not [a-z.]*{type(other).__name__}$"
             with self.assertRaisesRegex(TypeError, message):
                 to_sizes(other)
+
+    def test_numbers(self) -> None:
+        for items, dtype in [(["1 KB", 1536, None, 2.0, numpy.int64(7), numpy.float32(8)], object), ([1536, None, 7], None),
+                             ([1536, None], "Int64"), ([0, 2**53 - 1, None], "float64"), ([2**63 - 1], "uint64")]:  # fmt: skip
+            wanted = [1000 if item == "1 KB" else pandas.NA if item is None else int(item) for item in items]
+            for errors in ("raise", "coerce"):
+                self.assertEqual(to_sizes(pandas.Series(items, dtype=dtype), errors=errors).tolist(), wanted)
+        mixed = pandas.Series(["1 KB", -1, 10**30, "x", object(), numpy.datetime64("NaT"), "18 EB", 2**63, 5])
+        self.assertEqual(to_sizes(mixed, errors="coerce").tolist(), [1000] + [pandas.NA] * 7 + [5])
+        large = pandas.Series([10**5000, -(10**5000)], dtype=object)
+        self.assertTrue(to_sizes(large, errors="coerce").isna().all())
+        self.assertEqual(to_sizes(mixed, errors="coerce", overflow="saturate").tolist()[6:], [2**63 - 1] * 2 + [5])
+        with self.assertRaisesRegex(SizeError, r"^texts\[1\]: '-1' is not a size: the character '-' is not a number"):
+            to_sizes(mixed[:4])
+        with self.assertRaisesRegex(ByteUnitError, r"^texts\[1\]: '9223372036854775808' is 9223372036854775808 bytes"):
+            to_sizes(pandas.Series(["1", 2**63]))
+        with self.assertRaisesRegex(SizeError, r"^texts\[0\]: '10{30}' is not a size: the value"):
+            to_sizes(pandas.Series([10**30, "1"]))
+        with self.assertRaises(TypeError):
+            to_sizes(mixed, bits=1)
 
     def test_errors(self) -> None:
         quota = pandas.Series(["1", None, "1 x"], ["a", "b", "c"])
@@ -79,10 +100,11 @@ class ToSizes(unittest.TestCase):
             with self.subTest(size):
                 null = to_sizes(quota, overflow="null").tolist()
                 self.assertEqual(null, [1, pandas.NA, pandas.NA if large else size])
+                self.assertEqual(to_sizes(quota, errors="coerce").tolist(), null)
                 self.assertEqual(to_sizes(quota, overflow="saturate").tolist(), [1, pandas.NA, min(size, 2**63 - 1)])
                 for errors, bits in itertools.product(("raise", "coerce"), (False, True) if large else ()):
                     with self.assertRaises(ByteUnitError) as caught:
-                        to_sizes(quota, errors=errors, bits=bits)
+                        to_sizes(quota, errors=errors, bits=bits, overflow=None if errors == "raise" else "raise")
                     kind = "bits" if bits else "bytes"
                     message = f"texts[2]: '{size}' is {size} {kind}, which is 2**63 or more"
                     self.assertEqual(str(caught.exception), message)

@@ -6,7 +6,7 @@ from collections.abc import Callable
 from decimal import Decimal
 
 import byte_unit
-from byte_unit import SizeError
+from byte_unit import ByteUnitError, SizeError
 
 # text, flags, name, character, expected, also_expect_no_character, number, message
 ERRORS = [
@@ -74,7 +74,7 @@ class Parse(unittest.TestCase):
 
     def test_types(self) -> None:
         for call in (byte_unit.parse, byte_unit.explain, byte_unit.parse_unit, byte_unit.explain_unit):
-            for wrong in (None, 1, 1.5, ["1"], bytearray(b"1"), memoryview(b"1"), object()):
+            for wrong in (None, 1.5, True, ["1"], bytearray(b"1"), memoryview(b"1"), object()):
                 with self.subTest(call.__name__, wrong=wrong), self.assertRaises(TypeError):
                     call(wrong)
             flags = ["bits", "ignore_case"] + ["binary"] * (call in (byte_unit.parse, byte_unit.explain))
@@ -82,6 +82,28 @@ class Parse(unittest.TestCase):
                 for value in (None, 0, 1, "no", 1.0):
                     with self.subTest(call.__name__, flag=flag, value=value), self.assertRaises(TypeError):
                         call("1", **{flag: value})
+
+        for texts in (byte_unit.explain, byte_unit.parse_unit, byte_unit.explain_unit):
+            with self.assertRaises(TypeError):
+                texts(1)  # type: ignore[operator]
+
+    def test_numbers(self) -> None:
+        class Index:
+            def __index__(self) -> int:
+                return 1536
+
+        for number in (0, 1536, 2**64 - 1, 2**64, 10**30 - 1):
+            for flags in ({}, {"bits": True}, {"binary": True, "ignore_case": True}):
+                self.assertEqual(byte_unit.parse(number, **flags), number)
+        self.assertEqual(byte_unit.parse(Index()), 1536)
+        for number in (-1, 10**30):
+            with self.assertRaisesRegex(ByteUnitError, rf"^size must be from 0 to 10\*\*30 - 1, not {number}$"):
+                byte_unit.parse(number)
+        with self.assertRaisesRegex(TypeError, r"not float, .*: write a str such as '1\.5 GB', or int\(x\) for a whole"):
+            byte_unit.parse(1.5)  # type: ignore[arg-type]
+        for wrong, name in ((True, "bool"), (Decimal(1), "Decimal")):
+            with self.assertRaisesRegex(TypeError, f"^text must be str, bytes or int, not {name}$"):
+                byte_unit.parse(wrong)  # type: ignore[arg-type]
 
     def test_subclasses_of_str(self) -> None:
         class Word(str):

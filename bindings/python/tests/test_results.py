@@ -24,6 +24,11 @@ SIZES = [1000, None, None, None, 2000, None, None, 1024, None, 10**30 - 1, None]
 EDGES = [0, 1, 2**53, 2**53 + 1, 2**63 - 1, 2**63, 2**64 - 1, 2**64, 2**64 + 1, 10**30 - 1]
 
 
+def given(error: SizeError) -> str | bytes:
+    """Returns the text as it was passed."""
+    return error.text if error.data is None else error.data
+
+
 def column_of(sizes: list[int | None]) -> Column:
     """Returns a column of these sizes."""
     return byte_unit.parse_many([None if size is None else str(size) for size in sizes])
@@ -139,9 +144,9 @@ class Raised(unittest.TestCase):
             with self.subTest(wrong), self.assertRaises(SizeError) as single:
                 byte_unit.parse(wrong)
             self.assertEqual(str(error), f"texts[{row}]: {single.exception}")
-            self.assertEqual((error.row, error.text, error.name), (row, wrong, single.exception.name))
+            self.assertEqual((error.row, given(error), error.name), (row, wrong, single.exception.name))
             self.assertEqual(error.args, single.exception.args)
-            self.assertEqual((single.exception.row, single.exception.text), (None, wrong))
+            self.assertEqual((single.exception.row, given(single.exception)), (None, wrong))
 
     def test_buffers(self) -> None:
         texts = [b"1 KB"] * 2500
@@ -150,7 +155,7 @@ class Raised(unittest.TestCase):
             many = [*texts[:row], wrong, *texts[row:], b"later"]
             data, offsets = b"##" + b"".join(many), array("q", accumulate(map(len, many), initial=2))
             error = self.caught(byte_unit.parse_buffers, data, offsets)
-            self.assertEqual((error.row, error.text), (row, text))
+            self.assertEqual((error.row, given(error)), (row, text))
             self.assertTrue(str(error).startswith(f"texts[{row}]: {text[:80]!r}"))
             bits = ((1 << len(many)) - 1 ^ 1 << row).to_bytes(400, "little")
             error = self.caught(byte_unit.parse_buffers, data, offsets, validity=bits)
@@ -195,7 +200,7 @@ class Errors(unittest.TestCase):
         rejected = list(column.errors(TEXTS))
         self.assertEqual([(row, error.name) for row, error in rejected], list(column.errors()))
         for row, error in rejected:
-            self.assertEqual((error.text, error.args[0]), (TEXTS[row], byte_unit.explain(TEXTS[row])))
+            self.assertEqual((given(error), error.args[0]), (TEXTS[row], byte_unit.explain(TEXTS[row])))
         texts = ["1Kx", "9 b"]
         column = byte_unit.parse_many(iter(texts), ignore_case=True)
         self.assertEqual([error.expected for _, error in column.errors(iter(texts), ignore_case=True)], ["B"])

@@ -153,7 +153,8 @@ fn answer(words: &[&str], text: &str) -> String {
             number_by!(in_bits, parse_str_binary(text), uncased).map_or_else(error_of, |size| size.to_string())
         }
         "words" => {
-            let spec = ParseSpec { ignore_case: uncased, binary: words[2] == "binary", words: true, ..ParseSpec::BYTES };
+            let spec =
+                ParseSpec { ignore_case: uncased, binary: words[2] == "binary", words: true, ..ParseSpec::BYTES };
             number_by!(in_bits, parse_str_as(text, spec)).map_or_else(error_of, |size| size.to_string())
         }
         "hint" => or_none(hint_of(text).map(|hint| format!("\"{hint}\""))),

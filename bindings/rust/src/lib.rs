@@ -1,20 +1,52 @@
-//! Exact sizes in bytes and in bits.
+//! Exact sizes in bytes and in bits: `1.5 GiB` is 1610612736, and 1610612736 is `1.5 GiB`.
 //!
 //! The names and signatures are those of the crate byte-unit 5.2.6 by magiclen. The code that parses and formats sizes
 //! and chooses units is written and proved in Rattle, which is Rust with contracts, and rendered as Rust without them.
 //!
-//! # Examples
+//! # First program
 //!
 //! ```
 //! use byte_unit::{Byte, Unit, UnitType};
 //!
-//! let quota = Byte::parse_str("1.5 GiB", false)?;
+//! let quota: Byte = "1.5 GiB".parse()?;
 //! let free = quota.subtract(Byte::from_u64_with_unit(900, Unit::MB).unwrap()).unwrap();
 //! assert_eq!(free.as_u64(), 710_612_736);
 //! assert_eq!(format!("{free:#}"), "693957.75 KiB");
 //! assert_eq!(format!("{:.2}", free.get_appropriate_unit(UnitType::Binary)), "677.69 MiB");
+//!
+//! let error = "1.5 XB".parse::<Byte>().unwrap_err();
+//! assert!(error.to_string().starts_with("the character 'X' is incorrect"));
+//! assert_eq!(Byte::error_position("1.5 XB"), Some(4));
 //! # Ok::<(), byte_unit::ParseError>(())
 //! ```
+//!
+//! # With serde
+//!
+#![cfg_attr(not(doctest), doc = include_str!("serde_fields.md"))]
+//!
+//! # With clap
+//!
+#![cfg_attr(not(doctest), doc = include_str!("clap.md"))]
+//!
+//! # Calls
+//!
+//! [`Bit`] has them too, with `b` for its own unit.
+//!
+//! | To | Call |
+//! |---|---|
+//! | parse a string | `text.parse()`, [`Byte::parse_str`]; [`Byte::parse_str_binary`] if `K` means 1024, as in `10m` |
+//! | parse what may not be UTF-8 | [`Byte::parse_bytes`] |
+//! | parse a size in words, such as `5 bytes` | [`Byte::parse_str_as`], as a [`ParseSpec`] says |
+//! | tell where a string is wrong, and what is meant | [`Byte::error_position`], [`hint_of`] |
+//! | convert from a number | [`Byte::from_u64`], [`Byte::from_u128`], [`Byte::from_u64_with_unit`], [`Byte::from_f64`] |
+//! | convert to a number | [`Byte::as_u64`], [`Byte::as_u64_checked`], [`Byte::as_u128`] |
+//! | format exactly | `{:#}` |
+//! | format for people, rounded | [`Byte::approximate_text`], [`Byte::get_appropriate_unit`] |
+//! | format in a unit | [`Byte::get_adjusted_unit`] |
+//! | format without an allocation | [`Byte::write_text`] |
+//! | calculate | [`Byte::add`], [`Byte::subtract`], [`Byte::multiply`], [`Byte::divide`]: `None` if it is no size |
+//! | parse a unit | [`Unit::parse_str`] |
+//! | parse a column | [`Byte::parse_many`], [`Byte::parse_buffers`] |
 //!
 //! # Formatting
 //!
@@ -28,15 +60,6 @@
 //!
 //! An adjusted size always has its unit: `{}` is all its digits, `{:.2}` is rounded to two places, ties to even, and
 //! `{:#.2}` to at most two, ties up, without trailing zeros. With a unit, the padding is always spaces.
-//!
-//! # More than the original
-//!
-//! - `parse_str_binary` reads sizes of programs for which `K` is 1024, such as `10m`.
-//! - `parse_str_as` reads sizes in words too, such as `5 bytes`, if its `ParseSpec` says so.
-//! - `error_position` returns where a string is wrong, and `hint_of` how the size that was meant is written.
-//! - `parse_many` and `parse_buffers` parse columns.
-//! - `approximate_text` rounds a size for people: `117.7 MiB`.
-//! - `write_text` writes to a buffer, without a formatter.
 //!
 //! # Without std
 //!
@@ -52,6 +75,9 @@ compile_error!("byte-unit is for pointers of 32 or of 64 bits");
 #[cfg(feature = "std")]
 extern crate std;
 
+// First, as its methods then are, in the documentation, which has them in the order of the modules.
+mod text;
+
 mod decimal;
 mod errors;
 // The rendered sources, and what they need, are for the packages of this repository alone: their functions may have
@@ -61,6 +87,10 @@ mod rendered;
 #[cfg(feature = "internal")]
 #[doc(hidden)]
 pub mod rendered;
+#[cfg(feature = "rust_decimal")]
+mod rust_decimal_traits;
+#[cfg(feature = "serde")]
+pub mod serde_fields;
 #[cfg(feature = "serde")]
 mod serde_traits;
 mod sizes;
@@ -71,10 +101,12 @@ mod support;
 #[allow(missing_docs)]
 #[doc(hidden)]
 pub mod support;
-mod text;
 
-// Last, as its methods then are in the documentation, which has them in the order of the modules.
+// Last, for the same reason.
 mod many;
+
+#[cfg(feature = "rust_decimal")]
+pub extern crate rust_decimal;
 
 pub use core::num::TryFromIntError;
 

@@ -13,7 +13,7 @@ use crate::text::TEXT_LEN;
 use crate::{AdjustedBit, AdjustedByte, Bit, Byte, FormatSpec, Sign, Unit};
 
 /// What is parsed from a string.
-trait Parsed: FromStr {
+pub(crate) trait Parsed: FromStr {
     /// What is expected, for errors.
     const EXPECTED: &'static str;
 }
@@ -94,7 +94,7 @@ impl<T: Parsed> Parsed for Text<T> {
 }
 
 /// What is also converted from a number.
-trait Converted: Parsed {
+pub(crate) trait Converted: Parsed {
     /// Converts a number, or returns `None` if it is too large.
     fn from_number(number: u128) -> Option<Self>;
 }
@@ -165,6 +165,19 @@ where
     }
 }
 
+/// Reads a string, or an integer, as the number of bytes or bits. In a human-readable format it is the input that says
+/// which of them comes.
+pub(crate) fn convert<'de, T: Converted, D: Deserializer<'de>>(deserializer: D) -> Result<T, D::Error>
+where
+    T::Err: Display,
+{
+    if deserializer.is_human_readable() {
+        deserializer.deserialize_any(Converter(PhantomData))
+    } else {
+        deserializer.deserialize_u128(Converter(PhantomData))
+    }
+}
+
 /// Defines the traits of a type of sizes and of its adjusted sizes. `$expected` has examples for errors.
 macro_rules! serde_of_size {
     ($Size:ident, $Adjusted:ident, $expected:literal) => {
@@ -190,14 +203,8 @@ macro_rules! serde_of_size {
         }
 
         impl<'de> Deserialize<'de> for $Size {
-            /// Reads a string, or an integer, as the number of bytes or bits. In a human-readable format it is the
-            /// input that says which of them comes.
             fn deserialize<D: Deserializer<'de>>(deserializer: D) -> Result<Self, D::Error> {
-                if deserializer.is_human_readable() {
-                    deserializer.deserialize_any(Converter(PhantomData))
-                } else {
-                    deserializer.deserialize_u128(Converter(PhantomData))
-                }
+                convert(deserializer)
             }
         }
 

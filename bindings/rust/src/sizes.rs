@@ -1,5 +1,5 @@
-//! What the original's types of sizes have beside what is rendered: floats, comparisons with numbers, and texts by a
-//! formatter with its flags.
+//! What the original's types of sizes have beside what is rendered: floats, comparisons with numbers, texts by a formatter
+//! with its flags, and those of adjusted sizes in a buffer.
 
 use core::cmp::Ordering;
 use core::fmt::{self, Debug, Display, Formatter};
@@ -60,52 +60,6 @@ macro_rules! of_size {
             /// Creates a size as [`from_f64`](Self::from_f64) does.
             pub fn from_f32(size: f32) -> Option<Self> {
                 Self::from_f64(size.into())
-            }
-        }
-
-        /// Texts.
-        impl $Size {
-            /// Returns the text of the size in the largest unit of the type that is not above it, rounded to
-            /// `precision` digits after the point, ties to even, as
-            /// [`get_appropriate_unit`](Self::get_appropriate_unit) formats it with this precision. If there is no such
-            /// unit, it has all digits in
-            #[doc = concat!("`", stringify!($Size), "`'s own, `B` or `b`.")]
-            ///
-            /// # Examples
-            ///
-            /// ```
-            #[doc = concat!("use byte_unit::{", stringify!($Size), ", UnitType};")]
-            ///
-            #[doc = concat!("let size = ", stringify!($Size), "::from_u64(123_456_789);")]
-            /// assert!(size.approximate_text(UnitType::Binary, 1).starts_with("117.7 Mi"));
-            /// assert!(size.approximate_text(UnitType::Decimal, 2).starts_with("123.46 M"));
-            /// ```
-            #[cfg(feature = "std")]
-            pub fn approximate_text(self, unit_type: crate::UnitType, precision: u16) -> std::string::String {
-                let unit = self.get_appropriate_unit(unit_type).get_unit();
-                text::rounded(self.as_u128(), $kind, unit, precision)
-            }
-
-            /// Writes the text of the size, which is ASCII, to the beginning of `out`, and returns it.
-            ///
-            /// # Errors
-            ///
-            /// Returns [`Needed`] with the length of the text if `out` is shorter, and leaves `out` unchanged.
-            ///
-            /// # Examples
-            ///
-            /// ```
-            #[doc = concat!("use byte_unit::{", stringify!($Size), ", FormatSpec, Needed};")]
-            ///
-            #[doc = concat!("let size = ", stringify!($Size), "::from_u64(1536);")]
-            /// let mut out = [0; 40];
-            /// assert_eq!(size.write_text(FormatSpec::PLAIN, &mut out), Ok(b"1536".as_slice()));
-            /// assert_eq!(size.write_text(FormatSpec::PLAIN, &mut out[..3]), Err(Needed { len: 4 }));
-            /// ```
-            #[inline]
-            pub fn write_text(self, spec: FormatSpec, out: &mut [u8]) -> Result<&[u8], Needed> {
-                let len = crate::rendered::format::write_text(self.as_u128(), $kind, spec, out);
-                out.get(..len).ok_or(Needed { len })
             }
         }
 

@@ -1,11 +1,11 @@
-//! Texts of sizes: into a formatter with its flags, and into a caller's buffer.
+//! Texts of sizes: by methods, into a formatter with its flags, and into a caller's buffer.
 
 use core::fmt::{self, Alignment, Display, Formatter, Write};
 use core::str;
 
 use crate::rendered::base::Kind;
 use crate::rendered::format::{write_adjusted, write_text};
-use crate::{FormatSpec, Sign, Unit};
+use crate::{Bit, Byte, FormatSpec, Needed, Sign, Unit};
 
 /// The most digits after the point of a size in a unit, which are those of one bit in `RiB`.
 const MOST_PLACES: usize = 93;
@@ -25,6 +25,60 @@ impl<const N: usize> Buffer<N> {
         str::from_utf8(tested).ok().and_then(|text| text.get(..len)).ok_or(fmt::Error)
     }
 }
+
+/// Defines the methods of a type of sizes that make texts.
+macro_rules! texts_of_size {
+    ($Size:ident, $kind:expr) => {
+        /// Texts.
+        impl $Size {
+            /// Returns the text of the size in the largest unit of the type that is not above it, rounded to
+            /// `precision` digits after the point, ties to even, as
+            /// [`get_appropriate_unit`](Self::get_appropriate_unit) formats it with this precision. If there is no such
+            /// unit, it has all digits in
+            #[doc = concat!("`", stringify!($Size), "`'s own, `B` or `b`.")]
+            ///
+            /// # Examples
+            ///
+            /// ```
+            #[doc = concat!("use byte_unit::{", stringify!($Size), ", UnitType};")]
+            ///
+            #[doc = concat!("let size = ", stringify!($Size), "::from_u64(123_456_789);")]
+            /// assert!(size.approximate_text(UnitType::Binary, 1).starts_with("117.7 Mi"));
+            /// assert!(size.approximate_text(UnitType::Decimal, 2).starts_with("123.46 M"));
+            /// ```
+            #[cfg(feature = "std")]
+            pub fn approximate_text(self, unit_type: crate::UnitType, precision: u16) -> std::string::String {
+                let unit = self.get_appropriate_unit(unit_type).get_unit();
+                rounded(self.as_u128(), $kind, unit, precision)
+            }
+
+            /// Writes the text of the size, which is ASCII, to the beginning of `out`, and returns it.
+            ///
+            /// # Errors
+            ///
+            /// Returns [`Needed`] with the length of the text if `out` is shorter, and leaves `out` unchanged.
+            ///
+            /// # Examples
+            ///
+            /// ```
+            #[doc = concat!("use byte_unit::{", stringify!($Size), ", FormatSpec, Needed};")]
+            ///
+            #[doc = concat!("let size = ", stringify!($Size), "::from_u64(1536);")]
+            /// let mut out = [0; 40];
+            /// assert_eq!(size.write_text(FormatSpec::PLAIN, &mut out), Ok(b"1536".as_slice()));
+            /// assert_eq!(size.write_text(FormatSpec::PLAIN, &mut out[..3]), Err(Needed { len: 4 }));
+            /// ```
+            #[inline]
+            pub fn write_text(self, spec: FormatSpec, out: &mut [u8]) -> Result<&[u8], Needed> {
+                let len = write_text(self.as_u128(), $kind, spec, out);
+                out.get(..len).ok_or(Needed { len })
+            }
+        }
+    };
+}
+
+texts_of_size! { Byte, Kind::Byte }
+texts_of_size! { Bit, Kind::Bit }
 
 /// Formats the digits of a size as those of an integer, or with `#` the size in the unit that represents it exactly
 /// within the precision.

@@ -284,6 +284,7 @@ fn other_calls() -> Calls {
         unit_meant: r.reading().unit_meant(r.unit()),
         flags: r.reading().flags(),
         bits: r.kind().bits(),
+        unit: r.kind().unit(),
         parts: hint_of(&r.text()).map(|hint| (hint.parts(), hint.to_string())),
         whole: r.decimal().whole(),
         fraction: r.decimal().fraction(),

@@ -19,6 +19,7 @@ axioms Env heap rattle_alloc rattle_realloc rattle_dealloc rattle_arg rattle_err
 rattle_env_at lseek getcwd isatty ethtool SHORTER_PROOFS.md mul_8 div_8 rocket schemars ctypes REINDEX _in
 get_unchecked compiler_builtins crates/quota/src/main.rt crates/byte_unit_cli/out/byte_unit_cli /usr/local/lib
 /usr/local crates/byte_unit_lines/out/byte_unit_lines lib/sqlite3/byte_unit.so target/release/libbyte_unit.a
+FromParam FromFormField
 """.split())
 C_HEADER, C_EXAMPLE = "bindings/c/byte_unit.h", "bindings/c/examples/example.c"
 DEFINITION, RATTLE = "crates/byte_unit_c/specs/Version.antt", "crates/byte_unit_c/src/version.rt"
@@ -40,8 +41,8 @@ VERSIONS = [
     ("bindings/sql/postgresql/byte_unit.control", "default_version = '{version}'\n"),
     ("bindings/sql/postgresql/Makefile", "DATA = byte_unit--{version}.sql\n"),
     ("bindings/programs/Cargo.toml", '"byte-unit-programs"\nversion = "{version}"\n'),
-    ("bindings/rust/Cargo.toml", '\nversion = "5.2.6"\n'),
-    ("bindings/rust/Cargo.toml", '\nlibrary-version = "{version}"\n'),
+    ("bindings/rust/Cargo.toml", '\nversion = "5.2.6+{version}"\n'),
+    ("bindings/rust/README.md", "`5.2.6+{version}`"),
 ]
 # A name of code with its path, its arguments or a `!`; a path of files, where `*` matches any characters; and a link.
 NAME = re.compile(r"[A-Za-z_]\w*(?:(?:::|\.)\w+)*(?:\(.*\))?!?")

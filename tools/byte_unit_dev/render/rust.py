@@ -41,6 +41,7 @@ MODULE = """//! The proved sources of the library as Rust, without their contrac
     clippy::needless_range_loop,
     clippy::needless_return,
     clippy::new_without_default,
+    clippy::redundant_pattern_matching,
     clippy::type_complexity
 )]
 

@@ -42,7 +42,8 @@ class SizeError(ByteUnitError):
     which ends with the number of the first wrong character, from 1, or says that the text ends there. `args[0]` is the
     reason.
 
-    `text` is the text. The names are those of the codes in byte_unit.h:
+    `text` is the text, as a `str`: of `bytes` what they are in UTF-8, with what is not as lone surrogates, as
+    `surrogateescape` has it. `data` is those `bytes`, and else `None`. The names are those of the codes in byte_unit.h:
 
     - `no_value`: the text is empty or has only white space.
     - `not_number`: a digit is expected in place of `character`, or after it if the text ends there.
@@ -54,9 +55,9 @@ class SizeError(ByteUnitError):
 
     `character` and `number` are `None` if the name does not use them.
 
-    `position` is the index in `text` of the first wrong character, which no size, or unit, can have there; in `bytes`
-    that of a byte. If the text ends too early, it is the index of its end, before white space there; of white space
-    alone, its length. It is `None` if only the size is too large, and for `not_utf8`.
+    `position` is the index in `text` of the first wrong character, which no size, or unit, can have there; if `data` is
+    not `None`, that of a byte in it. If the text ends too early, it is the index of its end, before white space there;
+    of white space alone, its length. It is `None` if only the size is too large, and for `not_utf8`.
 
     `row` is the place of the text in a column, if `parse_many` or `parse_buffers` raises the error; then the message
     has it too.
@@ -67,7 +68,8 @@ class SizeError(ByteUnitError):
     __module__ = "byte_unit"
 
     # The extension module sets all fields itself but those that are `None`, without a call of `__init__`.
-    text: "str | bytes | None" = None
+    text: str = ""
+    data: "bytes | None" = None
     position: "int | None" = None
     row: "int | None" = None
     character: "str | None" = None
@@ -99,8 +101,8 @@ class SizeError(ByteUnitError):
     def __str__(self) -> str:
         """Returns the message, which is the reason alone if there is no text."""
         reason = str(self.args[0])
-        if self.text is None:
+        if "text" not in vars(self):
             return reason
         row = "" if self.row is None else f"texts[{self.row}]: "
         what = "unit" if self._of_unit else "size"
-        return f"{row}{quoted(self.text)} is not a {what}: {reason}"
+        return f"{row}{quoted(self.text if self.data is None else self.data)} is not a {what}: {reason}"

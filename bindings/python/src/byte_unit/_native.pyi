@@ -12,7 +12,9 @@ SIZE_LIMIT: Final[int]
 UNITS: Final[tuple[str, ...]]
 CODES: Final[tuple[str, ...]]
 
-def parse(text: str | bytes, *, bits: bool = False, ignore_case: bool = False, binary: bool = False) -> int: ...
+def parse(
+    text: str | bytes | SupportsIndex, *, bits: bool = False, ignore_case: bool = False, binary: bool = False
+) -> int: ...
 def explain(
     text: str | bytes, *, bits: bool = False, ignore_case: bool = False, binary: bool = False
 ) -> str | None: ...

@@ -15,7 +15,7 @@ from typing import Any, Literal
 import numpy
 import pandas  # type: ignore[import]
 
-from . import ByteUnitError, Column, adjusted_text, approximate_text, parse_many, text
+from . import SIZE_LIMIT, ByteUnitError, Column, adjusted_text, approximate_text, parse_many, text
 from ._errors import quoted
 from ._native import first_large
 
@@ -35,6 +35,30 @@ def _reject_large(column: Column, texts: Any, bits: bool) -> None:
         raise ByteUnitError(f"texts[{row}]: {quoted(texts[row])} is {column[row]} {kind}, which is 2**63 or more")
 
 
+def _digits(row: int, item: Any, errors: str) -> Any:
+    """Returns a text as it is, a whole number as its digits, and a null, or with "coerce" all else, as `None`."""
+    if isinstance(item, (float, numpy.floating)) and (number := float(item)).is_integer() and abs(number) < 2**53:
+        item = int(number)  # exact: pandas makes floats of integers beside a null
+    if isinstance(item, (int, numpy.integer)) and not isinstance(item, bool):
+        # Python makes no text of an int with too many digits.
+        return str(item) if errors == "raise" or -SIZE_LIMIT < item < SIZE_LIMIT else None
+    if isinstance(item, (str, bytes)):
+        return item
+    if errors == "coerce" or (pandas.api.types.is_scalar(item) and pandas.isna(item)):
+        return None
+    raise TypeError(f"texts[{row}] must be str, bytes, a whole number or null, not {type(item).__name__} {item!r}")
+
+
+def _parsed(texts: Any, errors: Literal["coerce", "raise"], **flags: bool) -> tuple[Any, Column]:
+    """Returns texts, and numbers as texts, with their column."""
+    try:
+        return texts, parse_many(texts, errors=errors, **flags)
+    except TypeError:
+        pass  # not all are texts or null
+    texts = [_digits(row, item, errors) for row, item in enumerate(texts)]
+    return texts, parse_many(texts, errors=errors, **flags)
+
+
 def to_sizes(
     texts: "pandas.Series",
     *,
@@ -42,28 +66,34 @@ def to_sizes(
     ignore_case: bool = False,
     binary: bool = False,
     errors: Literal["coerce", "raise"] = "raise",
-    overflow: Literal["raise", "null", "saturate"] = "raise",
+    overflow: Literal["raise", "null", "saturate"] | None = None,
 ) -> "pandas.Series":
-    """Returns the sizes of a series of texts as nullable integers, `Int64`, with its index and name.
+    """Returns the sizes of a series of texts and numbers as nullable integers, `Int64`, with its index and name.
 
-    A null is `NA`. The first text that is not a size, or is empty, raises `SizeError`, whose message has the row,
-    counted from 0, the text and the reason; with `errors="coerce"` each is `NA`. If a size is 2^63 or more, `overflow`
-    decides: `"raise"` raises `ByteUnitError` with the row and the text of the first one, `"null"` makes it `NA`, and
-    `"saturate"` makes it 2^63 - 1. The series may be of objects, of strings, or backed by Arrow. The flags are those of
-    `parse`. Raises `TypeError` if `texts` is not a series.
+    A null is `NA`. A whole number is a size, as `parse` has it; a float too, if it is below 2^53, since pandas makes
+    floats of integers beside a null. The first text that is not a size, or is empty, and the first number below 0 or of
+    10^30 or more raise `SizeError`, whose message has the row, counted from 0, the text and the reason; what is neither
+    a text, a whole number nor null raises `TypeError`. With `errors="coerce"` each of these is `NA`.
+
+    `Int64` holds sizes below 2^63. If one is not, `overflow` decides: `"raise"`, the default, raises `ByteUnitError`
+    with the row and the text of the first one, `"null"`, the default with `errors="coerce"`, makes it `NA`, and
+    `"saturate"` makes it 2^63 - 1. The series may be of objects, of strings, of numbers, or backed by Arrow. The flags
+    are those of `parse`. Raises `TypeError` if `texts` is not a series.
 
     The sum of an `Int64` series wraps past 2^63, in pandas; `parse_many(texts).sum()` is exact.
 
     >>> quota = pandas.Series(["1 KB", "", "1 RB"], ["a", "b", "c"])
     >>> to_sizes(quota, errors="coerce", overflow="null").to_dict()
     {'a': 1000, 'b': <NA>, 'c': <NA>}
+    >>> to_sizes(pandas.Series(["1 KB", 1536, 1.5, "18 EB"]), errors="coerce").tolist()
+    [1000, 1536, <NA>, <NA>]
     >>> to_sizes(quota)
     Traceback (most recent call last):
     byte_unit.SizeError: texts[1]: '' is not a size: no value can be found (at the end of the text)
     """
     _check_series("texts", texts)
-    many = texts.to_numpy(object)
-    column = parse_many(many, bits=bits, ignore_case=ignore_case, binary=binary, errors=errors)
+    many, column = _parsed(texts.to_numpy(object), errors, bits=bits, ignore_case=ignore_case, binary=binary)
+    overflow = overflow or ("raise" if errors == "raise" else "null")
     if overflow == "raise":
         _reject_large(column, many, bits)
     numbers = numpy.array(column.int64(overflow=overflow))

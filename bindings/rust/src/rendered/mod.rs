@@ -15,6 +15,7 @@
     clippy::needless_range_loop,
     clippy::needless_return,
     clippy::new_without_default,
+    clippy::redundant_pattern_matching,
     clippy::type_complexity
 )]
 

@@ -21,9 +21,9 @@ impl Bit {
     /// # Examples
     /// ```rust
     /// let words = ParseSpec::BITS.reading_words(true);
-    /// assert_eq!(rt; Bit::parse_str_as("10 megabytes", words)?, Bit::from_u64(10_000_000));
+    /// assert_eq!(rt; Bit::parse_str_as("10 Megabytes", words)?, Bit::parse_str("10 Mb", false)?);
     /// let binary = ParseSpec::BINARY_BITS.reading_words(true);
-    /// assert_eq!(rt; Bit::parse_str_as("10 megabytes", binary)?, Bit::from_u64(10_485_760));
+    /// assert_eq!(rt; Bit::parse_str_as("10 megabytes", binary)?, Bit::parse_str("10 Mib", false)?);
     /// assert!(rt; Bit::parse_str_as("5 octets", ParseSpec::BITS).is_err());
     /// ```
     pub fn parse_str_as(s: &str, spec: ParseSpec) -> Result<Bit, ParseError>

@@ -20,9 +20,9 @@ impl Byte {
     /// # Examples
     /// ```rust
     /// let words = ParseSpec::BYTES.reading_words(true);
-    /// assert_eq!(rt; Byte::parse_str_as("10 megabytes", words)?, Byte::from_u64(10_000_000));
+    /// assert_eq!(rt; Byte::parse_str_as("10 Megabytes", words)?, Byte::parse_str("10 MB", false)?);
     /// let binary = ParseSpec::BINARY_BYTES.reading_words(true);
-    /// assert_eq!(rt; Byte::parse_str_as("10 megabytes", binary)?, Byte::from_u64(10_485_760));
+    /// assert_eq!(rt; Byte::parse_str_as("10 megabytes", binary)?, Byte::parse_str("10 MiB", false)?);
     /// assert!(rt; Byte::parse_str_as("5 octets", ParseSpec::BYTES).is_err());
     /// ```
     pub fn parse_str_as(s: &str, spec: ParseSpec) -> Result<Byte, ParseError>

@@ -21,9 +21,9 @@ impl Bit {
     /// use byte_unit::Bit;
     ///
     /// let words = ParseSpec::BITS.reading_words(true);
-    /// assert_eq!(Bit::parse_str_as("10 megabytes", words)?, Bit::from_u64(10_000_000));
+    /// assert_eq!(Bit::parse_str_as("10 Megabytes", words)?, Bit::parse_str("10 Mb", false)?);
     /// let binary = ParseSpec::BINARY_BITS.reading_words(true);
-    /// assert_eq!(Bit::parse_str_as("10 megabytes", binary)?, Bit::from_u64(10_485_760));
+    /// assert_eq!(Bit::parse_str_as("10 megabytes", binary)?, Bit::parse_str("10 Mib", false)?);
     /// assert!(Bit::parse_str_as("5 octets", ParseSpec::BITS).is_err());
     /// # Ok::<(), Box<dyn std::error::Error>>(())
     /// ```

@@ -21,9 +21,9 @@ impl Byte {
     /// use byte_unit::Byte;
     ///
     /// let words = ParseSpec::BYTES.reading_words(true);
-    /// assert_eq!(Byte::parse_str_as("10 megabytes", words)?, Byte::from_u64(10_000_000));
+    /// assert_eq!(Byte::parse_str_as("10 Megabytes", words)?, Byte::parse_str("10 MB", false)?);
     /// let binary = ParseSpec::BINARY_BYTES.reading_words(true);
-    /// assert_eq!(Byte::parse_str_as("10 megabytes", binary)?, Byte::from_u64(10_485_760));
+    /// assert_eq!(Byte::parse_str_as("10 megabytes", binary)?, Byte::parse_str("10 MiB", false)?);
     /// assert!(Byte::parse_str_as("5 octets", ParseSpec::BYTES).is_err());
     /// # Ok::<(), Box<dyn std::error::Error>>(())
     /// ```
