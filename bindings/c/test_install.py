@@ -55,7 +55,7 @@ def test_program(prefix, tmp_path, cc, form, how):
     (tmp_path / "program.c").write_text(program)
     links = {"shared": flags(prefix, "--libs"), "static": flags(prefix, "--libs", "--static"),
              "archive": [prefix / "lib/libbyte_unit.a"]}
-    as_cpp = ["-Wno-missing-field-initializers", "-x", "c++"] * ("++" in cc)
+    as_cpp = ["-x", "c++"] * ("++" in cc)
     words = [*WARNINGS, *how.split(), *by_lld, *flags(prefix, "--cflags"), *as_cpp, "program.c", "-x", "none"]
     compiled(cc, "program", *words, *links[form], cwd=tmp_path)
     here = {"env": {**os.environ, "LD_LIBRARY_PATH": str(prefix / "lib")}, "cwd": "/"}
