@@ -1,5 +1,5 @@
-# For CMake's find_package(byte_unit). `byte_unit::byte_unit` is the library as the words of pkg-config link it, the shared
-# one if that is installed; `byte_unit::static` is the archive.
+# For CMake's find_package(byte_unit). `byte_unit::byte_unit` is the library as the words of pkg-config link it, the
+# shared one if that is installed; `byte_unit::static` is the archive.
 get_filename_component(_byte_unit_lib "${CMAKE_CURRENT_LIST_DIR}/../.." REALPATH)
 if(NOT TARGET byte_unit::byte_unit)
   add_library(byte_unit::static STATIC IMPORTED)

@@ -10,7 +10,7 @@ WARNINGS = ["-Wall", "-Wextra", "-Wpedantic", "-Wconversion", "-Werror"]
 IN_C, IN_CPP = ["c99", "c11", "c17", "c2x"], ["c++17", "c++20"]
 STANDARDS = {"gcc": IN_C, "clang": IN_C, "g++": IN_CPP, "clang++": IN_CPP}
 SOURCES = {"example": "examples/example.c", "arguments": "checks/arguments.c", "comments": "checks/comments.c"}
-# C++ has the designated initializers of the comments since C++20. There -Wextra of g++ warns of them, as the header says.
+# C++ has the designated initializers of the comments since C++20, of which -Wextra of g++ warns, as the header says.
 LEFT_OUT = {"example": [], "arguments": [], "comments": ["c++17"]}
 BUILDS = [(name, compiler, standard) for name, left_out in LEFT_OUT.items()
           for compiler, names in STANDARDS.items() for standard in names if standard not in left_out]  # fmt: skip
@@ -92,7 +92,8 @@ def comments(each_library, tmp_path):
     header, page = read(f"{each_library}/byte_unit.h"), read("bindings/c/README.md")
     words = f"{comments_of(header)}\n{page}"
     places = [re.search(form, words)[1] for form in (r"precision of at most (\d+)", r"up to precision (\d+)")]
-    uses, specs = uses_of(header), [("{ 0 }", "{}"), ("BYTE_UNIT_SPEC_INIT", "{}"), *specs_of(comments_of(header)), *specs_of(page)]
+    zeroed = [("{ 0 }", "{}"), ("BYTE_UNIT_SPEC_INIT", "{}")]
+    uses, specs = uses_of(header), [*zeroed, *specs_of(comments_of(header)), *specs_of(page)]
     assert uses, "the comments have code beside initializers of specs"
     write(f"{tmp_path}/uses.inc", "\n".join(uses) + "\n")
     write(f"{tmp_path}/specs.inc", "".join(

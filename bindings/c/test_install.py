@@ -91,20 +91,20 @@ def test_cmake(prefix, tmp_path, target):
 
 def test_version_in_cmake(prefix, tmp_path):
     lines = "".join(f'find_package(byte_unit {words} QUIET)\nmessage("= ${{byte_unit_FOUND}}")\n' for words in ASKED)
-    assert re.findall("^= (.)", built_by_cmake(tmp_path, prefix, f"project(sizes NONE)\n{lines}"), re.M) == [*ASKED.values()]
+    printed = built_by_cmake(tmp_path, prefix, f"project(sizes NONE)\n{lines}")
+    assert re.findall("^= (.)", printed, re.M) == [*ASKED.values()]
 
 
-@pytest.mark.parametrize("read_by_loader, status, variables, called, said", [
-    (True, 0, {}, True, ""), (True, 1, {}, True, "to run: call `ldconfig` as root"),
-    (True, 0, {"DESTDIR": "below"}, False, "to run: call `ldconfig` as root"),
-    (False, 0, {}, False, "to run: LD_LIBRARY_PATH="),
+@pytest.mark.parametrize("read_by_loader, status, below, called, said", [
+    (True, 0, "", True, ""), (True, 1, "", True, "to run: call `ldconfig` as root"),
+    (True, 0, "below", False, "to run: call `ldconfig` as root"), (False, 0, "", False, "to run: LD_LIBRARY_PATH="),
 ])  # fmt: skip
-def test_loader(library, tmp_path, read_by_loader, status, variables, called, said):
+def test_loader(library, tmp_path, read_by_loader, status, below, called, said):
     """ldconfig is called if the loader reads the folder; if it fails or is not called, a line says what to do."""
     names = f"echo '{tmp_path}/{'prefix' if read_by_loader else 'other'}/lib: (from here)'"
     write(tmp_path / "ldconfig", f'#!/bin/sh\n[ $# = 0 ] || {{ {names}; exit; }}\n>{tmp_path}/called\nexit {status}\n')
     (tmp_path / "ldconfig").chmod(0o755)
-    here = {**os.environ, "PATH": f"{tmp_path}:{os.environ['PATH']}", **{k: f"{tmp_path}/{v}" for k, v in variables.items()}}
+    here = {**os.environ, "PATH": f"{tmp_path}:{os.environ['PATH']}", "DESTDIR": below and f"{tmp_path}/{below}"}
     got = output(*INSTALL, "--from", library, "--without-sqlite", tmp_path / "prefix", env=here)
     assert (tmp_path / "called").exists() == called and ("to run: " in got) == bool(said) and said in got
 
@@ -331,8 +331,9 @@ def test_without_compiler(library, tmp_path):
     said = output(*INSTALL, "--from", library, tmp_path, env={**os.environ, "CC": "none"})
     assert "skipped: libbyte_unit.so and sqlite3/byte_unit.so: there is no C compiler none\n" in said
     assert not [name for name in files_in(tmp_path) if ".so" in name]
-    example = f"add_executable(sizes {path('bindings/c/examples/example.c')})\ntarget_link_libraries(sizes byte_unit::byte_unit)"
-    built_by_cmake(tmp_path, tmp_path, f"project(sizes C)\nfind_package(byte_unit)\n{example}")
+    built_by_cmake(tmp_path, tmp_path, "project(sizes C)\nfind_package(byte_unit)\n"
+                   f"add_executable(sizes {path('bindings/c/examples/example.c')})\n"
+                   "target_link_libraries(sizes byte_unit::byte_unit)\n")  # fmt: skip
     output(tmp_path / "sizes")
 
 

@@ -16,11 +16,11 @@ such as /usr/local, but for what --without-sqlite and --without-command leave ou
     share/man/man3/byte_unit.3      the manual page, made of the header, also by the name of each call
     share/byte_unit/LICENSE, installed    the license, and the list of these files, which --uninstall reads
 
-With the variable DESTDIR the files go to $DESTDIR/PREFIX, and name PREFIX: for packages. Without a C compiler ($CC, or
-cc) the shared library and the extension are left out, and a line says so. Calls ldconfig if the loader reads PREFIX/lib, and
-DESTDIR is not set; if it cannot, as it needs root, a line says to call it. If something fails, or a signal comes before
-the end, nothing is installed, and one line says why. --uninstall removes the files of the list, and the folders that
-the installation made if they are empty.
+With the variable DESTDIR the files go to $DESTDIR/PREFIX, and name PREFIX: for packages. Without a C compiler ($CC,
+or cc) the shared library and the extension are left out, and a line says so. If the loader reads PREFIX/lib and
+DESTDIR is not set, calls ldconfig; without the rights for it, a line says to call it as root. If something fails,
+or a signal comes before the end, nothing is installed, and one line says why. --uninstall removes the files of the
+list, and the folders that the installation made if they are empty.
 """
 
 import os

@@ -28,8 +28,8 @@ def folded(text):
 
 
 class Row:
-    """A row: its line, ID and call, the words of this, its text (or None), and its answer, with nothing escaped. Its name
-    is the first word, or that of what is computed."""
+    """A row: its line, ID and call, the words of this, its name, which is the first of them or what is computed, its text
+    (or None), and its answer, with nothing escaped."""
 
     def __init__(self, line):
         found = re.fullmatch(r'(\S+): ([^"=]*?(?: ("[^"]*"))?) = (.+)', line)

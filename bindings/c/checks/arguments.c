@@ -245,8 +245,8 @@ static void calculations(void)
               && !byte_unit_subtract(number(1), number(2), &size) && !byte_unit_subtract(number(1), last, &size)
               && !byte_unit_subtract(limit, number(1), &size) && !byte_unit_subtract(last, last, &size)
               && size.low == 7 && size.high == 7);
-    check("the greatest", byte_unit_add(greatest, number(0), &size) && byte_unit_compare(size, greatest) == 0
-                              && byte_unit_subtract(greatest, greatest, &size) && byte_unit_compare(size, number(0)) == 0);
+    check("the greatest", byte_unit_add(greatest, number(0), &size) && byte_unit_compare(size, greatest) == 0);
+    check("zero", byte_unit_subtract(greatest, greatest, &size) && byte_unit_compare(size, number(0)) == 0);
     check("carry", byte_unit_add(number(UINT64_MAX), number(1), &size) && byte_unit_compare(size, next) == 0);
     check("borrow", byte_unit_subtract(size, number(1), &size) && size.low == UINT64_MAX && size.high == 0);
     check("order", byte_unit_compare(next, number(UINT64_MAX)) == 1 && byte_unit_compare(greatest, limit) == -1

@@ -1,5 +1,5 @@
-/* Every call of the C API once, in C and in C++. Prints what it returns; the last line is the number of results that are not as written
- * here.
+/* Every call of the C API once, in C and in C++. Prints what it returns; the last line is the number of results that are
+ * not as written here.
  *
  *     cc -I DIR example.c DIR/libbyte_unit.a
  */

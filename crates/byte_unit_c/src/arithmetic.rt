@@ -8,8 +8,8 @@ ghost use Rattle.byte_unit_c.specs.Values.{number_of};
 use crate::values::Number;
 use byte_unit_base::size;
 
-/// Writes the sum of two sizes, and returns `true`. Returns `false` and writes nothing if the sum is 10^30 or more, as it
-/// is if `a` or `b` is.
+/// Writes the sum of two sizes, and returns `true`. Returns `false` and writes nothing if the sum is 10^30 or more, as
+/// it is if `a` or `b` is.
 ///
 /// For example, 1000 and 24 gives `true` and the sum 1024.
 #[unsafe(no_mangle)]
@@ -21,8 +21,8 @@ pub extern "C" fn byte_unit_add(a: Number, b: Number, sum: &mut Number) -> bool
     write_size(sum_of(a.get(), b.get()), sum)
 }
 
-/// Writes the difference of two sizes, and returns `true`. Returns `false` and writes nothing if `b` is greater than `a`,
-/// or if `a` is 10^30 or more.
+/// Writes the difference of two sizes, and returns `true`. Returns `false` and writes nothing if `b` is greater than
+/// `a`, or if `a` is 10^30 or more.
 ///
 /// For example, 1024 and 24 gives `true` and the difference 1000.
 #[unsafe(no_mangle)]
