@@ -8,9 +8,9 @@ import re
 import pytest
 from byte_unit_dev.fixtures import ended, environment, path, read
 from byte_unit_dev.model.answers import answer
-from byte_unit_dev.rows import BY_C, BY_RUST, FILE, check, check_program, rows, spellings
+from byte_unit_dev.rows import BY_PYTHON, BY_RUST, FILE, check, check_program, rows, spellings
 
-BY_JAVASCRIPT = BY_C | {"exact", "recoverable", "make_in"}
+BY_JAVASCRIPT = BY_PYTHON | {"exact", "recoverable", "make_in"}
 # The rows of version 3.0.0: those of a section are the numbers up to this one, and a digest has their lines.
 ROWS_OF_3_0_0 = {
     "parse": (148, "a4f97b7748245c92"), "binary": (138, "22eeb8428e592c08"), "errors": (569, "7b44e835bf9fcb00"),
@@ -73,7 +73,7 @@ def test_rust(cargo, rust_package):
 
 
 def test_python(python):
-    check_program([python.program, path("vectors/run_python.py")], env=environment())
+    check_program([python.program, path("vectors/run_python.py")], BY_PYTHON, env=environment())
 
 
 def test_javascript(javascript):

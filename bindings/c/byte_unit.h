@@ -3,14 +3,14 @@
  * Link libbyte_unit.a or libbyte_unit.so (`tools/make-libraries DIR` builds both), which run on every x86-64 processor.
  * The library calls memcpy, memmove and memset, and one function of libgcc, __udivti3. It does not allocate and keeps
  * no state between calls, so every call may be made from any thread. No call ends the program: built by cargo, the
- * library names abort in place of __udivti3, for checks that rustc adds, and it is proved of the sources that none of
- * them fails.
+ * library names abort in place of __udivti3, for checks that rustc adds; one that failed would call it, but none does,
+ * by what is proved of the sources.
  *
  * Preconditions of every call, which nothing checks:
  *
  * - A pointer is valid for its type and its length: `text` for reading `len` bytes, `out` for writing `out_len` bytes,
  *   arrays for their number of elements. With a length of 0 it may be NULL, as an empty std::string_view, Go slice or
- *   Arrow buffer has it. `error` may be NULL. `size`, `unit`, `position` and `count`, as pointers, may not.
+ *   Arrow buffer has it. `error` may be NULL. No other pointer to a single value may.
  * - What is written overlaps no other argument of the call, and no other thread uses it during the call. It need not be
  *   initialized. No other thread writes what is read.
  *
@@ -73,7 +73,9 @@ enum {
 /* A format spec, with the fields of a format spec of the Rust crate. If every field is zero, it is `{}`: digits
  * only. `{ .alternate = 1 }` is `{:#}`, `{ .width = 12, .alternate = 1 }` is `{:#12}`, and
  * `{ .precision = 2, .has_precision = 1 }` is `{:.2}`: C++20 takes these initializers too, which name the fields in
- * their order. A spec with any other value in a field than those listed is invalid, and is rejected. */
+ * their order; with -Wextra, g++ warns of the fields that they leave out. BYTE_UNIT_SPEC_INIT initializes a
+ * byte_unit_spec to zeros, in C and in C++. A spec with any other value in a field than those listed is invalid, and is
+ * rejected. */
 typedef struct byte_unit_spec {
     uint32_t precision;    /* digits after the decimal point, 0 to 65535, if has_precision is 1; otherwise 0 */
     uint32_t width;        /* minimum width in columns, 1 to 65535; 0: none */
@@ -82,6 +84,8 @@ typedef struct byte_unit_spec {
     uint8_t sign;          /* BYTE_UNIT_SIGN_.. */
     uint8_t align;         /* BYTE_UNIT_ALIGN_.. */
 } byte_unit_spec;
+
+#define BYTE_UNIT_SPEC_INIT { 0, 0, 0, 0, 0, 0 }
 
 enum {
     BYTE_UNIT_SIGN_UNSET, /* no sign; one space before a unit */
@@ -302,6 +306,24 @@ uint32_t byte_unit_recoverable_unit(byte_unit_number size, uint32_t flags, size_
  * Returns false and writes nothing if the size is 10^30 or more, or the unit or a flag is unknown.
  * Flags: BITS. */
 bool byte_unit_from_unit(byte_unit_number count, uint32_t unit, uint32_t flags, byte_unit_number *size);
+
+/* The calls below are the same for sizes in bytes and in bits. */
+
+/* Writes the sum of two sizes, and returns true. Returns false and writes nothing if the sum is 10^30 or more. */
+bool byte_unit_add(byte_unit_number a, byte_unit_number b, byte_unit_number *sum);
+
+/* Writes the difference of two sizes, and returns true. Returns false and writes nothing if `b` is greater than `a`, or
+ * if `a` is 10^30 or more. */
+bool byte_unit_subtract(byte_unit_number a, byte_unit_number b, byte_unit_number *difference);
+
+/* Returns -1 if `a` is less than `b`, 0 if they are equal, and 1 if `a` is greater. They may be 10^30 or more. */
+int32_t byte_unit_compare(byte_unit_number a, byte_unit_number b);
+
+/* Returns the size of a number of 64 bits, such as a uint64_t or a size_t of a program. It is never out of range. */
+byte_unit_number byte_unit_from_u64(uint64_t value);
+
+/* Writes a size as a number of 64 bits, and returns true. Returns false and writes nothing if it is 2^64 or more. */
+bool byte_unit_to_u64(byte_unit_number size, uint64_t *value);
 
 #ifdef __cplusplus
 }

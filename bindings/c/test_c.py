@@ -10,8 +10,8 @@ WARNINGS = ["-Wall", "-Wextra", "-Wpedantic", "-Wconversion", "-Werror"]
 IN_C, IN_CPP = ["c99", "c11", "c17", "c2x"], ["c++17", "c++20"]
 STANDARDS = {"gcc": IN_C, "clang": IN_C, "g++": IN_CPP, "clang++": IN_CPP}
 SOURCES = {"example": "examples/example.c", "arguments": "checks/arguments.c", "comments": "checks/comments.c"}
-# The example is C alone, and C++ has the designated initializers of the comments since C++20.
-LEFT_OUT = {"example": IN_CPP, "arguments": [], "comments": ["c++17"]}
+# C++ has the designated initializers of the comments since C++20, of which -Wextra of g++ warns, as the header says.
+LEFT_OUT = {"example": [], "arguments": [], "comments": ["c++17"]}
 BUILDS = [(name, compiler, standard) for name, left_out in LEFT_OUT.items()
           for compiler, names in STANDARDS.items() for standard in names if standard not in left_out]  # fmt: skip
 
@@ -20,8 +20,8 @@ BUILDS = [(name, compiler, standard) for name, left_out in LEFT_OUT.items()
 def program_in_c(each_library, tmp_path):
     """Compiles a program of this folder with the library of each compiler, and returns its path."""
     def build(source, compiler="cc", standard="c11"):
-        # In C++, unlike in C, -Wextra warns of a field that an initializer leaves out.
-        language = ["-x", "c++", "-Wno-missing-field-initializers"] if standard.startswith("c++") else []
+        language = ["-x", "c++"] * standard.startswith("c++")
+        language += ["-Wno-missing-field-initializers"] * (source == SOURCES["comments"])
         includes = ["-I", each_library, "-I", tmp_path]
         words = [f"-std={standard}", "-O2", *WARNINGS, *includes, *language, path("bindings/c", source)]
         return compiled(compiler, tmp_path / "program", *words, "-x", "none", f"{each_library}/libbyte_unit.a")
@@ -92,7 +92,8 @@ def comments(each_library, tmp_path):
     header, page = read(f"{each_library}/byte_unit.h"), read("bindings/c/README.md")
     words = f"{comments_of(header)}\n{page}"
     places = [re.search(form, words)[1] for form in (r"precision of at most (\d+)", r"up to precision (\d+)")]
-    uses, specs = uses_of(header), [("{ 0 }", "{}"), *specs_of(comments_of(header)), *specs_of(page)]
+    zeroed = [("{ 0 }", "{}"), ("BYTE_UNIT_SPEC_INIT", "{}")]
+    uses, specs = uses_of(header), [*zeroed, *specs_of(comments_of(header)), *specs_of(page)]
     assert uses, "the comments have code beside initializers of specs"
     write(f"{tmp_path}/uses.inc", "\n".join(uses) + "\n")
     write(f"{tmp_path}/specs.inc", "".join(

@@ -19,6 +19,9 @@ WRONG = {
     "byte_unit_explain": "size_t n = real(text, len, flags, out, out_len); if (n && n < out_len) out[n] = 0; return n;",
     "byte_unit_text": "if (out_len > 190) { out[-1] = 0; } return real(size, flags, spec, out, out_len);",
     "byte_unit_exact_unit": "uint32_t unit = real(size, flags, count); count->high += unit == 27; return unit;",
+    "byte_unit_subtract": "bool found = real(a, b, difference); difference->high += found && b.high; return found;",
+    "byte_unit_compare": "int32_t order = real(a, b); return order < 0 ? -2 : order;",
+    "byte_unit_from_u64": "byte_unit_number size = real(value); size.high = value >> 63; return size;",
     "byte_unit_unit_error_position": """const volatile char *all = text;
         return real(text, len, position) && (len < 9 || (all[len] | 1));""",
 }

@@ -11,7 +11,7 @@ import pytest
 from byte_unit_dev.common import read
 from byte_unit_dev.source import line_of, source, sources
 
-HEADER = "bindings/c/byte_unit.h"
+HEADER, SPEC = "bindings/c/byte_unit.h", "crates/byte_unit_c/src/spec.rt"
 TYPES = {"u8": "uint8_t", "u32": "uint32_t", "u64": "uint64_t", "i32": "int32_t", "i64": "int64_t", "usize": "size_t",
          "bool": "bool", **{name: f"byte_unit_{name.lower()}" for name in ("Number", "Decimal", "Spec", "Error")}}
 # What an inline call passes for the lengths of arrays.
@@ -99,6 +99,7 @@ def macros():
         "VERSION_STRING": f'"{major}.{minor}.{patch}"',
         "SIZE_LIMIT_LOW": limit % 2**64, "SIZE_LIMIT_HIGH": limit // 2**64,
         "SIZE_LIMIT_INIT": "{ BYTE_UNIT_SIZE_LIMIT_LOW, BYTE_UNIT_SIZE_LIMIT_HIGH }",
+        "SPEC_INIT": f"{{ {', '.join('0' * len(dict(structs(source(SPEC).plain))['Spec']))} }}",
         "NO_UNIT": {"u32::MAX": 2**32 - 1}[only(r"^pub const NO_UNIT: u32 = (.*?);", "units")],
         "BUFFER_SIZE": only(r"fn byte_unit_explain\(.*?\bresult ≤ (\d+)", "explain"),
         "HINT_SIZE": only(r"fn byte_unit_hint\(.*?\bresult ≤ (\d+)", "hint"),
@@ -157,6 +158,8 @@ WRONG = [
     ("flags < BYTE_UNIT_BINARY_PREFIXES", "flags < BYTE_UNIT_WORDS"),
     ("flags & BYTE_UNIT_WORDS", "flags & BYTE_UNIT_BINARY_PREFIXES"),
     ("data_len, offsets, offsets ? count + 1 : 0, flags", "data_len, offsets, count, flags"),
+    ("int32_t byte_unit_compare(", "uint32_t byte_unit_compare("),
+    ("byte_unit_number byte_unit_from_u64(", "uint64_t byte_unit_from_u64("),
     ("uint64_t low;\n    uint64_t high;", "uint64_t high;\n    uint64_t low;"),
     ("uint32_t width;", "int32_t width;"),
     ("char expected[16];", "char expected[15];"),

@@ -55,13 +55,58 @@ def test_program(prefix, tmp_path, cc, form, how):
     (tmp_path / "program.c").write_text(program)
     links = {"shared": flags(prefix, "--libs"), "static": flags(prefix, "--libs", "--static"),
              "archive": [prefix / "lib/libbyte_unit.a"]}
-    as_cpp = ["-Wno-missing-field-initializers", "-x", "c++"] * ("++" in cc)
+    as_cpp = ["-x", "c++"] * ("++" in cc)
     words = [*WARNINGS, *how.split(), *by_lld, *flags(prefix, "--cflags"), *as_cpp, "program.c", "-x", "none"]
     compiled(cc, "program", *words, *links[form], cwd=tmp_path)
     here = {"env": {**os.environ, "LD_LIBRARY_PATH": str(prefix / "lib")}, "cwd": "/"}
     good, bad = call(tmp_path / "program", **here), call(tmp_path / "program", "1 x", **here)
     assert (good.stdout, good.returncode, bad.returncode) == ("1.5 KiB\n", 0, 1)
     assert bad.stdout.startswith("1 x: the character 'x' is incorrect (")
+
+
+# What find_package(byte_unit ..) asks for, and whether it is found.
+ASKED = {"": "1", "3": "1", "3.0": "1", "3.0.0 EXACT": "1", "3 EXACT": "1", "3.0.1": "0", "2": "0", "30": "0", "4": "0"}
+
+
+def built_by_cmake(folder, prefix, lines):
+    """Builds a project of CMake with the library in a prefix, and returns what the configuration prints."""
+    need("cmake", "make")
+    write(folder / "CMakeLists.txt", f"cmake_minimum_required(VERSION 3.13)\n{lines}")
+    printed = output("cmake", f"-DCMAKE_PREFIX_PATH={prefix}", ".", cwd=folder)
+    output("cmake", "--build", ".", cwd=folder)
+    return printed
+
+
+@pytest.mark.parametrize("target", ["byte_unit::byte_unit", "byte_unit::static"])
+def test_cmake(prefix, tmp_path, target):
+    """CMake's lines of the page build the program, by the shared library or by the archive."""
+    need("cmake", "make")
+    program, lines = (re.search(rf"```{of}\n(.*?)```", read("bindings/c/README.md"), re.S)[1] for of in ("c", "cmake"))
+    write(tmp_path / "program.c", program)
+    built_by_cmake(tmp_path, prefix, f"project(sizes C)\n{lines.replace('byte_unit::byte_unit', target)}")
+    assert output(tmp_path / "program", env={}) == "1.5 KiB\n"
+    needed = output("readelf", "-d", tmp_path / "program")
+    assert ("libbyte_unit.so.3" in needed) == (target == "byte_unit::byte_unit")
+
+
+def test_version_in_cmake(prefix, tmp_path):
+    lines = "".join(f'find_package(byte_unit {words} QUIET)\nmessage("= ${{byte_unit_FOUND}}")\n' for words in ASKED)
+    printed = built_by_cmake(tmp_path, prefix, f"project(sizes NONE)\n{lines}")
+    assert re.findall("^= (.)", printed, re.M) == [*ASKED.values()]
+
+
+@pytest.mark.parametrize("read_by_loader, status, below, called, said", [
+    (True, 0, "", True, ""), (True, 1, "", True, "to run: call `ldconfig` as root"),
+    (True, 0, "below", False, "to run: call `ldconfig` as root"), (False, 0, "", False, "to run: LD_LIBRARY_PATH="),
+])  # fmt: skip
+def test_loader(library, tmp_path, read_by_loader, status, below, called, said):
+    """ldconfig is called if the loader reads the folder; if it fails or is not called, a line says what to do."""
+    names = f"echo '{tmp_path}/{'prefix' if read_by_loader else 'other'}/lib: (from here)'"
+    write(tmp_path / "ldconfig", f'#!/bin/sh\n[ $# = 0 ] || {{ {names}; exit; }}\n>{tmp_path}/called\nexit {status}\n')
+    (tmp_path / "ldconfig").chmod(0o755)
+    here = {**os.environ, "PATH": f"{tmp_path}:{os.environ['PATH']}", "DESTDIR": below and f"{tmp_path}/{below}"}
+    got = output(*INSTALL, "--from", library, "--without-sqlite", tmp_path / "prefix", env=here)
+    assert (tmp_path / "called").exists() == called and ("to run: " in got) == bool(said) and said in got
 
 
 def test_shared_library(prefix):
@@ -90,7 +135,7 @@ def test_version(prefix, tmp_path):
 def test_manual_page(prefix):
     """It names and declares each call of the header, which has a page, and `mandoc -T lint` finds nothing."""
     text, calls = read(prefix / PAGE), calls_of(read(prefix / HEADER))
-    assert sorted(re.findall(r"^(byte_unit_\w+),? ?", text, re.M)) == calls
+    assert sorted(re.findall(r"^(byte_unit_\w+)(?:,$| \\-)", text, re.M)) == calls
     assert sorted(re.findall(r"^\w+ (byte_unit_\w+)\(", text, re.M)) == calls
     assert {page.stem for page in (prefix / PAGE).parent.iterdir()} == {*calls, "byte_unit"}
     assert re.search(r"`\\eu\{a0\}`", text)
@@ -282,10 +327,14 @@ def test_no_library_for_bindings(tmp_path, variables, words):
 
 
 def test_without_compiler(library, tmp_path):
-    """Without a compiler the archive is installed, and what needs one is named as skipped."""
+    """Without a compiler the archive is installed, which CMake finds, and what needs one is named as skipped."""
     said = output(*INSTALL, "--from", library, tmp_path, env={**os.environ, "CC": "none"})
     assert "skipped: libbyte_unit.so and sqlite3/byte_unit.so: there is no C compiler none\n" in said
     assert not [name for name in files_in(tmp_path) if ".so" in name]
+    built_by_cmake(tmp_path, tmp_path, "project(sizes C)\nfind_package(byte_unit)\n"
+                   f"add_executable(sizes {path('bindings/c/examples/example.c')})\n"
+                   "target_link_libraries(sizes byte_unit::byte_unit)\n")  # fmt: skip
+    output(tmp_path / "sizes")
 
 
 def test_command(library, tmp_path, program_of):

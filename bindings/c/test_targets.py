@@ -14,7 +14,7 @@ from byte_unit_dev.fixtures import (
 )  # fmt: skip
 from byte_unit_dev.libraries import AARCH64, CORTEX_M4, TARGET_CC, built_by_cargo
 from byte_unit_dev.model.exact import output_for, some_line
-from byte_unit_dev.rows import check_program
+from byte_unit_dev.rows import BY_PYTHON, check_program
 
 # What runs the programs of each target.
 TARGETS = {AARCH64: "qemu-aarch64", "i686-unknown-linux-gnu": "qemu-i386", "armv7-unknown-linux-gnueabihf": "qemu-arm",
@@ -89,7 +89,7 @@ def test_python(python_of_target):
 
 @FOR_AARCH64
 def test_rows_in_python(python_of_target):
-    check_program([*python_of_target.words, path("vectors/run_python.py")], env=environment())
+    check_program([*python_of_target.words, path("vectors/run_python.py")], BY_PYTHON, env=environment())
 
 
 def test_embedded(newest_rustc, check_drawn, monkeypatch):

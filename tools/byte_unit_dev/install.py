@@ -11,14 +11,16 @@ such as /usr/local, but for what --without-sqlite and --without-command leave ou
     include/byte_unit.h             the header
     lib/libbyte_unit.a, .so         the library; the .so leads to that of the soname, and this to that of the version
     lib/pkgconfig/byte_unit.pc      for cc $(pkg-config --cflags --libs byte_unit)
+    lib/cmake/byte_unit             for CMake's find_package(byte_unit)
     lib/sqlite3/byte_unit.so        the extension for SQLite, if sqlite3ext.h is installed
     share/man/man3/byte_unit.3      the manual page, made of the header, also by the name of each call
     share/byte_unit/LICENSE, installed    the license, and the list of these files, which --uninstall reads
 
-With the variable DESTDIR the files go to $DESTDIR/PREFIX, and name PREFIX: for packages. Without a C compiler ($CC, or
-cc) the shared library and the extension are left out, and a line says so. If something fails, or a signal comes before
-the end, nothing is installed, and one line says why. --uninstall removes the files of the list, and the folders that
-the installation made if they are empty.
+With the variable DESTDIR the files go to $DESTDIR/PREFIX, and name PREFIX: for packages. Without a C compiler ($CC,
+or cc) the shared library and the extension are left out, and a line says so. If the loader reads PREFIX/lib and
+DESTDIR is not set, calls ldconfig; without the rights for it, a line says to call it as root. If something fails,
+or a signal comes before the end, nothing is installed, and one line says why. --uninstall removes the files of the
+list, and the folders that the installation made if they are empty.
 """
 
 import os
@@ -30,12 +32,13 @@ import tempfile
 from pathlib import Path
 
 from . import libraries
-from .common import Failure, output, path, read, reason, shown
+from .common import Failure, call, output, path, read, reason, shown
 from .libraries import ARCHIVE, EXTENSION, HEADER, functions
 from .replace import missing_folders, remove, remove_folders, replace
 
 LIST = "share/byte_unit/installed"
 COMMAND = "byte-unit"
+CMAKE = "lib/cmake/byte_unit/byte_unit"
 
 
 def run(prefix, *, from_="", without_sqlite=False, without_command=False, uninstall=False):
@@ -57,9 +60,19 @@ def run(prefix, *, from_="", without_sqlite=False, without_command=False, uninst
     print(f"installed {len(files) + 1} files")
     print(f"to compile: cc program.c $(PKG_CONFIG_PATH={folder}/pkgconfig pkg-config --cflags --libs byte_unit)")
     if "lib/libbyte_unit.so" in files:
-        print(f"to run: `ldconfig` as root if the loader reads {folder}, else LD_LIBRARY_PATH={folder}")
+        tell_the_loader(os.path.join(prefix, "lib"))
     if f"lib/{EXTENSION}" in files:
         print(f"in sqlite3: .load {folder}/sqlite3/byte_unit")
+
+
+def tell_the_loader(folder):
+    """Calls ldconfig if the loader reads the folder, and prints what is left to do before a program runs."""
+    ldconfig = shutil.which("ldconfig", path=f"{os.environ.get('PATH', '')}:/usr/sbin:/sbin") or "false"
+    read_by_loader = re.findall("^(/[^:]*):", call(ldconfig, "-NXv").stdout, re.M)
+    if os.path.realpath(folder) not in map(os.path.realpath, read_by_loader):
+        print(f"to run: LD_LIBRARY_PATH={shlex.quote(folder)}, since the loader does not read that folder")
+    elif os.environ.get("DESTDIR") or call(ldconfig).returncode:
+        print("to run: call `ldconfig` as root, once, so that the loader finds the library")
 
 
 def build(folder, source, with_command):
@@ -94,12 +107,14 @@ def files_of(folder, prefix, without):
     files = {place: (folder / name).read_bytes() for place, name in built.items() if (folder / name).exists()}
     manual = output(sys.executable, path("bindings/c/manual.py"), folder / HEADER)
     files["share/man/man3/byte_unit.3"], others = manual.encode(), {"share/byte_unit/LICENSE": "LICENSE"}
+    others[f"{CMAKE}-config.cmake"] = "bindings/c/byte_unit-config.cmake"
     if f"bin/{COMMAND}" in files:
         others["share/man/man1/byte-unit.1"] = "command/byte-unit.1"
         others["share/bash-completion/completions/byte-unit"] = "command/byte-unit.bash"
     files.update({place: Path(path(name)).read_bytes() for place, name in others.items()})
-    config = read("bindings/c/byte_unit.pc.in").replace("@PREFIX@", prefix)
-    files["lib/pkgconfig/byte_unit.pc"] = config.replace("@VERSION@", shared.partition(".so.")[2]).encode()
+    for place in ("lib/pkgconfig/byte_unit.pc", f"{CMAKE}-config-version.cmake"):
+        config = read(f"bindings/c/{os.path.basename(place)}.in").replace("@PREFIX@", prefix)
+        files[place] = config.replace("@VERSION@", shared.partition(".so.")[2]).encode()
     files.update({f"share/man/man3/{call}.3": "byte_unit.3" for call in calls_of(read(folder / HEADER))})
     if f"lib/{shared}" in files:
         files.update({f"lib/{soname}": shared, f"lib/{short}": soname})

@@ -28,7 +28,7 @@ CARGO_PROGRAMS = ["cargo", "rustc", "cc", *CLAP]
 # module of Debian's Python.
 PACKAGES = {
     **{name: name for name in ("gcc", "g++", "clang", "pkg-config", "mandoc", "sqlite3", "mypy", "git", "chromium",
-                               "make", "valgrind", "mmdebstrap")},
+                               "make", "cmake", "valgrind", "mmdebstrap")},
     "cc": "gcc", "stdio.h": "libc6-dev", "clang++": "clang", "ld.lld": "lld", "musl-gcc": "musl-tools", "sqlite3ext.h": "libsqlite3-dev",
     **dict.fromkeys(["ar", "nm", "objcopy", "readelf"], "binutils"), PYTHON_H: "python3-dev",
     "import tomllib": "python3", "import ensurepip": "python3-venv", "import xdist": "python3-pytest-xdist",

@@ -12,7 +12,8 @@ FILE = "crates/byte_unit_vectors/stdin"
 BY_RUST = {"read", "plain", "layout", "value", "steps", "largest", "choose", "decimal", "expansion", "rounded", "least",
            "quotient", "powers", "json", "from_json", "unit_json", "unit_from_json", "properties", "binary_unit",
            "constant"}  # fmt: skip
-BY_C = BY_RUST | {"make_decimal", "compute", "as_u64"}
+BY_C = BY_RUST | {"make_decimal", "multiply", "divide"}
+BY_PYTHON = BY_C | {"add", "subtract", "as_u64"}
 
 
 def unescaped(text):
@@ -27,7 +28,8 @@ def folded(text):
 
 
 class Row:
-    """A row: its line, ID and call, the words of this, its text (or None), and its answer, with nothing escaped."""
+    """A row: its line, ID and call, the words of this, its name, which is the first of them or what is computed, its text
+    (or None), and its answer, with nothing escaped."""
 
     def __init__(self, line):
         found = re.fullmatch(r'(\S+): ([^"=]*?(?: ("[^"]*"))?) = (.+)', line)
@@ -35,6 +37,7 @@ class Row:
             raise Failure(f"{FILE}: this is no row, `ID: CALL = ANSWER`: {line[:300]}")
         self.line, (self.id, self.call, text, answer) = line, found.groups()
         self.words, self.answer = self.call.partition(' "')[0].split(), unescaped(answer)
+        self.name = self.words[3 if self.words[0] == "compute" else 0]
         self.text = unescaped(text[1:-1]) if text else None
 
 
@@ -44,13 +47,13 @@ def rows():
 
 
 def check(rows, answers, left_out=()):
-    """Checks the answers of a runner: they are the rows', but `-` to a call whose word is left out, and to no other."""
+    """Checks the answers of a runner: they are the rows', but `-` to a call whose name is left out, and to no other."""
     answers = [*answers]
     assert len(answers) <= len(rows), f"there are {len(answers)} answers for {len(rows)} rows"
     wrong = [
         f"{row.id}: {row.call[:300]}\n    wanted: {folded(wanted)}\n    got:    {folded(got)}"
         for row, got in zip_longest(rows, answers, fillvalue="nothing")
-        for wanted in ["-" if row.words[0] in left_out else row.answer] if got != wanted
+        for wanted in ["-" if row.name in left_out else row.answer] if got != wanted
     ]  # fmt: skip
     if wrong:
         raise AssertionError("\n".join([f"{len(wrong)} rows are answered otherwise:", *wrong[:20]]))

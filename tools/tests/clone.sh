@@ -33,7 +33,6 @@ fails_with "to build the library, install cargo and rustc" env CARGO=/nowhere to
 first_of_c < bindings/c/README.md > program.c
 eval "$(install_of < bindings/c/README.md)"
 ./a.out > /dev/null # the last is the example
-ldconfig
 # The words of pkg-config are several.
 # shellcheck disable=SC2046
 cc -Wall -Werror -o program program.c $(pkg-config --cflags --libs byte_unit)

@@ -259,6 +259,30 @@ static void out_of_range(void)
     }
 }
 
+/* Sums, differences, comparisons and 64-bit values at the borders: of 64 bits, of sizes and of 128 bits. */
+static void calculations(void)
+{
+    const byte_unit_number limit = BYTE_UNIT_SIZE_LIMIT_INIT, last = { UINT64_MAX, UINT64_MAX }, next = { 0, 1 };
+    byte_unit_number greatest = limit, size = { 7, 7 };
+    uint64_t value = 7;
+
+    greatest.low--;
+    check("nothing written", !byte_unit_add(greatest, number(1), &size) && !byte_unit_add(greatest, greatest, &size)
+              && !byte_unit_add(limit, number(0), &size) && !byte_unit_add(last, last, &size)
+              && !byte_unit_subtract(number(1), number(2), &size) && !byte_unit_subtract(number(1), last, &size)
+              && !byte_unit_subtract(limit, number(1), &size) && !byte_unit_subtract(last, last, &size)
+              && size.low == 7 && size.high == 7);
+    check("the greatest", byte_unit_add(greatest, number(0), &size) && byte_unit_compare(size, greatest) == 0);
+    check("zero", byte_unit_subtract(greatest, greatest, &size) && byte_unit_compare(size, number(0)) == 0);
+    check("carry", byte_unit_add(number(UINT64_MAX), number(1), &size) && byte_unit_compare(size, next) == 0);
+    check("borrow", byte_unit_subtract(size, number(1), &size) && size.low == UINT64_MAX && size.high == 0);
+    check("order", byte_unit_compare(next, number(UINT64_MAX)) == 1 && byte_unit_compare(greatest, limit) == -1
+                       && byte_unit_compare(limit, last) == -1 && byte_unit_compare(number(1), number(2)) == -1
+                       && byte_unit_compare(last, last) == 0);
+    check("no 64 bits", !byte_unit_to_u64(next, &value) && !byte_unit_to_u64(last, &value) && value == 7);
+    check("64 bits", byte_unit_to_u64(byte_unit_from_u64(UINT64_MAX), &value) && value == UINT64_MAX);
+}
+
 /* Offsets of both widths: each list, with 8 bytes of data, is right or is rejected with nothing written. */
 static void offsets(bool right, int64_t first, int64_t second, int64_t third)
 {
@@ -314,6 +338,7 @@ int main(void)
     words_and_hints();
     positions();
     out_of_range();
+    calculations();
     many_offsets();
     printf("%lu checks, %lu wrong\n", checks, wrong);
     return wrong != 0;

@@ -44,7 +44,12 @@
     X(appropriate_unit, BYTE_UNIT_NO_UNIT)                                                                             \
     X(exact_unit, BYTE_UNIT_NO_UNIT)                                                                                   \
     X(recoverable_unit, BYTE_UNIT_NO_UNIT)                                                                             \
-    X(from_unit, false)
+    X(from_unit, false)                                                                                                \
+    X(add, false)                                                                                                      \
+    X(subtract, false)                                                                                                 \
+    X(compare, 0)                                                                                                      \
+    X(from_u64, 0)                                                                                                     \
+    X(to_u64, false)
 
 #define FIELD(name, counted) __typeof__(byte_unit_##name) *name;
 #define INDEX(name, counted) AT_##name,
@@ -68,13 +73,13 @@ typedef struct place {
     size_t len;
 } place;
 
-static place number, decimal, error, unit, position, out, sizes, codes;
-static place *const places[] = { &number, &decimal, &error, &unit, &position, &out, &sizes, &codes };
+static place number, decimal, error, unit, position, value, out, sizes, codes;
+static place *const places[] = { &number, &decimal, &error, &unit, &position, &value, &out, &sizes, &codes };
 
 /* The arguments of the calls, which are printed if there is a difference. */
 static string given;
 static const char *text;
-static byte_unit_number size;
+static byte_unit_number size, other;
 static byte_unit_spec spec;
 static uint32_t flags, code;
 static size_t out_len;
@@ -87,6 +92,7 @@ static void print_arguments(void)
         printf(given.bytes[i] >= ' ' && given.bytes[i] <= '~' ? "%c" : "\\x%02x", (unsigned char)given.bytes[i]);
     printf("\", the number %llu * 2^64 + %llu, flags %u, code %u, out_len %zu,\n",
            (unsigned long long)size.high, (unsigned long long)size.low, flags, code, out_len);
+    printf("the other number %llu * 2^64 + %llu,\n", (unsigned long long)other.high, (unsigned long long)other.low);
     printf("the spec { .precision = %u, .width = %u, .has_precision = %u, .alternate = %u, .sign = %u, .align = %u }\n",
            spec.precision, spec.width, spec.has_precision, spec.alternate, spec.sign, spec.align);
 }
@@ -150,12 +156,14 @@ static void compare(const uint64_t *returned)
     }
 }
 
-#define CALL(name, ...)                                                                                                \
+/* Compares the results of a call, or a part of each, such as `.low`. */
+#define CALL(name, ...) COMPARE(name, , __VA_ARGS__)
+#define COMPARE(name, part, ...)                                                                                       \
     do {                                                                                                               \
         uint64_t returned[2];                                                                                          \
         function = AT_##name;                                                                                          \
         for (library = 0; library < 2; library++)                                                                      \
-            returned[library] = libraries[library].name(__VA_ARGS__);                                                  \
+            returned[library] = (uint64_t)(libraries[library].name(__VA_ARGS__) part);                                 \
         compare(returned);                                                                                             \
     } while (0)
 
@@ -261,6 +269,23 @@ static void choose(void)
     CALL(from_unit, size, code, flags, in(&number));
 }
 
+/* Calculates with two numbers, of which one in two sums or differences is near the limit. */
+static void calculate(void)
+{
+    size = draw_number();
+    other = one_in(2) ? draw_number() : number_of(power(10, 30) * one_in(2) - value_of(size) + below(3) - 1);
+    begin(&number, sizeof(byte_unit_number));
+    CALL(add, size, other, in(&number));
+    other = one_in(4) ? size : other;
+    begin(&number, sizeof(byte_unit_number));
+    CALL(subtract, size, other, in(&number));
+    CALL(compare, size, other);
+    COMPARE(from_u64, .low, other.low);
+    COMPARE(from_u64, .high, other.low);
+    begin(&value, sizeof(uint64_t));
+    CALL(to_u64, size, in(&value));
+}
+
 /* Begins the places of the sizes and the codes of many texts, and returns their numbers: mostly those of the texts. */
 static void begin_many(size_t count, size_t lengths[2])
 {
@@ -358,6 +383,7 @@ int main(int argc, char **argv)
         parse_unit(draw_flags(BYTE_UNIT_BITS | BYTE_UNIT_IGNORE_CASE));
         format();
         choose();
+        calculate();
         parse_many(end, wide_end, narrow_end);
     }
     for (int i = 0; i < COUNT; i++)

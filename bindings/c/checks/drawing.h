@@ -191,6 +191,16 @@ static wide power(uint32_t base, uint32_t exponent)
     return result;
 }
 
+static byte_unit_number number_of(wide n)
+{
+    return (byte_unit_number){ (uint64_t)n, (uint64_t)(n >> 64) };
+}
+
+static wide value_of(byte_unit_number n)
+{
+    return (wide)n.high << 64 | n.low;
+}
+
 /* Draws a number: of any length, near a power of ten, or a part of a unit. One in 32 may be 10^30 or more. */
 static byte_unit_number draw_number(void)
 {
@@ -211,7 +221,7 @@ static byte_unit_number draw_number(void)
     }
     n += one_in(8) ? below(3) : 0;
     n = one_in(32) ? n : n % power(10, 30);
-    return (byte_unit_number){ (uint64_t)n, (uint64_t)(n >> 64) };
+    return number_of(n);
 }
 
 /* Draws flags among those that a call knows; one in 16 has another. */

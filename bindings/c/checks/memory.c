@@ -92,6 +92,21 @@ static void format(byte_unit_number size, uint32_t flags, uint32_t unit, byte_un
     free(count), free(found), free(exact);
 }
 
+static void calculate(byte_unit_number a, byte_unit_number b)
+{
+    byte_unit_number *sum = malloc(sizeof *sum), *difference = malloc(sizeof *difference), made;
+    uint64_t *value = malloc(sizeof *value);
+    int32_t order = byte_unit_compare(a, b);
+
+    use(&order, sizeof order);
+    use(sum, byte_unit_add(a, b, sum) ? sizeof *sum : 0);
+    use(difference, byte_unit_subtract(a, b, difference) ? sizeof *difference : 0);
+    use(value, byte_unit_to_u64(a, value) ? sizeof *value : 0);
+    made = byte_unit_from_u64(b.low);
+    use(&made, sizeof made);
+    free(sum), free(difference), free(value);
+}
+
 int main(void)
 {
     static const char *const texts[] = { "", "1.5 KiB", "1 byte", "x", "1.", "-1", "KiB", "Kx", " Mbi", "1 \xff",
@@ -109,6 +124,8 @@ int main(void)
                 for (uint32_t unit = 0; unit < 39; unit++)
                     format(sizes[at], flags, unit, specs[spec]);
     }
+    for (size_t at = 0; at < 25; at++)
+        calculate(sizes[at / 5], sizes[at % 5]);
     parse_many();
     return 0;
 }

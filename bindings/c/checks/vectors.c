@@ -234,6 +234,36 @@ static void answer_make_in(uint32_t flags, char **words)
         printf("none");
 }
 
+/* Answers `compute KIND SIZE OP NUMBER`. The C API adds and subtracts alone. */
+static void answer_compute(char **words)
+{
+    byte_unit_number a = number(words[2]), b = number(words[4]), result;
+    bool is_sum = !strcmp(words[3], "add");
+    if (!is_sum && strcmp(words[3], "subtract"))
+        putchar('-');
+    else if (is_sum ? byte_unit_add(a, b, &result) : byte_unit_subtract(a, b, &result))
+        print_number(result);
+    else
+        printf("none");
+}
+
+/* Answers `as_u64 KIND SIZE`: the size, or the greatest number of 64 bits in its place, and the size, if it fits. */
+static void answer_as_u64(byte_unit_number size)
+{
+    uint64_t value = UINT64_MAX;
+    bool fits = byte_unit_to_u64(size, &value);
+    if (byte_unit_compare(size, (byte_unit_number)BYTE_UNIT_SIZE_LIMIT_INIT) >= 0) {
+        printf("none");
+        return;
+    }
+    print_number(byte_unit_from_u64(value));
+    putchar(' ');
+    if (fits)
+        print_number(byte_unit_from_u64(value));
+    else
+        printf("none");
+}
+
 /* Answers a record: words, of which no call has more than eight, and a text after a double quote. */
 static void answer(char *record)
 {
@@ -268,6 +298,10 @@ static void answer(char *record)
         answer_choice(bits, words);
     else if (!strcmp(words[0], "make_in"))
         answer_make_in(bits, words);
+    else if (!strcmp(words[0], "compute"))
+        answer_compute(words);
+    else if (!strcmp(words[0], "as_u64"))
+        answer_as_u64(number(words[2]));
     else
         putchar('-');
     putchar('\n');

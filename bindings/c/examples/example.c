@@ -1,5 +1,5 @@
-/* Every call of the C API once. Prints what it returns; the last line is the number of results that are not as written
- * here.
+/* Every call of the C API once, in C and in C++. Prints what it returns; the last line is the number of results that are
+ * not as written here.
  *
  *     cc -I DIR example.c DIR/libbyte_unit.a
  */
@@ -35,7 +35,7 @@ static byte_unit_number number(uint64_t n)
 static void line(const char *text, uint32_t flags, const char *expected)
 {
     byte_unit_number size;
-    byte_unit_spec with_unit = { 0 };
+    byte_unit_spec with_unit = BYTE_UNIT_SPEC_INIT;
     char out[BYTE_UNIT_BUFFER_SIZE];
     size_t length;
 
@@ -107,7 +107,7 @@ static void parse_many_texts(void)
 
 static void format_sizes(void)
 {
-    byte_unit_spec spec = { 0 }; /* `{}` */
+    byte_unit_spec spec = BYTE_UNIT_SPEC_INIT; /* `{}` */
     char out[9] = "########", all[BYTE_UNIT_BUFFER_SIZE];
 
     expect("in KiB", all, byte_unit_adjusted_text(number(123456), 0, BYTE_UNIT_KIB, spec, all, sizeof all),
@@ -135,6 +135,19 @@ static void choose_units(void)
     expect_true("version 3.0.0", byte_unit_version() == BYTE_UNIT_VERSION && BYTE_UNIT_VERSION == 3000000);
 }
 
+static void calculate(void)
+{
+    byte_unit_number total = byte_unit_from_u64(UINT64_MAX);
+    uint64_t value = 7;
+
+    expect_true("a sum of 64 bits", byte_unit_add(total, number(1), &total) && total.low == 0 && total.high == 1);
+    expect_true("is above 64 bits", !byte_unit_to_u64(total, &value) && value == 7);
+    expect_true("and above 1 KB", byte_unit_compare(total, number(1000)) > 0);
+    expect_true("its difference", byte_unit_subtract(total, number(1), &total) && byte_unit_to_u64(total, &value)
+                                      && value == UINT64_MAX);
+    expect_true("no size is negative", !byte_unit_subtract(number(1), total, &total));
+}
+
 int main(void)
 {
     parse_sizes();
@@ -142,6 +155,7 @@ int main(void)
     parse_many_texts();
     format_sizes();
     choose_units();
+    calculate();
     printf("%d wrong\n", wrong);
     return wrong != 0;
 }

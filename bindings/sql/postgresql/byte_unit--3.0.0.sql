@@ -33,7 +33,6 @@ CREATE FUNCTION size_in(bytesize, unit text, flags text DEFAULT '') RETURNS text
     AS 'MODULE_PATHNAME', 'size_in_with_flags' LANGUAGE C IMMUTABLE PARALLEL SAFE;
 CREATE FUNCTION size_pretty(bytesize, unit_type text DEFAULT 'binary', places integer DEFAULT 1) RETURNS text
     AS 'MODULE_PATHNAME' LANGUAGE C IMMUTABLE PARALLEL SAFE;
-
 -- Casts: on assignment where no size changes, explicit where one may be rounded up or out of range. None is implicit:
 -- with one from integer, `integer * numeric` would be ambiguous.
 CREATE FUNCTION bytesize(smallint) RETURNS bytesize
@@ -57,6 +56,13 @@ CREATE CAST (numeric AS bytesize) WITH FUNCTION bytesize(numeric);
 CREATE CAST (bytesize AS integer) WITH FUNCTION "int4"(bytesize);
 CREATE CAST (bytesize AS bigint) WITH FUNCTION "int8"(bytesize);
 CREATE CAST (bytesize AS numeric) WITH FUNCTION "numeric"(bytesize) AS ASSIGNMENT;
+
+-- size_pretty of each exact number, since an integer is cast to numeric; and of a text, since with these two functions
+-- alone a constant in quotes would be ambiguous.
+CREATE FUNCTION size_pretty(numeric, unit_type text DEFAULT 'binary', places integer DEFAULT 1) RETURNS text
+    LANGUAGE SQL IMMUTABLE PARALLEL SAFE RETURN size_pretty($1::bytesize, unit_type, places);
+CREATE FUNCTION size_pretty(text, unit_type text DEFAULT 'binary', places integer DEFAULT 1) RETURNS text
+    LANGUAGE SQL IMMUTABLE PARALLEL SAFE RETURN size_pretty(size_parse($1), unit_type, places);
 
 -- Order. A comparison or a hash tells nothing but its result, so it is LEAKPROOF. The numbers in an operator class are
 -- those by which its kind of index calls operators and functions. Equal sizes have equal bytes: btequalimage.

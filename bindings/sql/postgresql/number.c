@@ -83,21 +83,23 @@ SQL_FUNCTION(bytesize_to_numeric)
  * sizes are not negative, so a sum is out of range in every order or in none. */
 SQL_FUNCTION(bytesize_add)
 {
-    uint128_value sum = value_of(argument(fcinfo, 0)) + value_of(argument(fcinfo, 1));
+    ByteSize sum;
 
-    if (!is_size(sum) || AggCheckCallContext(fcinfo, NULL) == 0)
-        return result_in_range(sum);
-    *(ByteSize *)PG_GETARG_POINTER(0) = size_of(sum);
+    if (!byte_unit_add(argument(fcinfo, 0), argument(fcinfo, 1), &sum))
+        reject_range();
+    if (AggCheckCallContext(fcinfo, NULL) == 0)
+        return result_of(sum);
+    *(ByteSize *)PG_GETARG_POINTER(0) = sum;
     return PG_GETARG_DATUM(0);
 }
 
 SQL_FUNCTION(bytesize_subtract)
 {
-    ByteSize a = argument(fcinfo, 0), b = argument(fcinfo, 1);
+    ByteSize difference;
 
-    if (compare(a, b) < 0)
+    if (!byte_unit_subtract(argument(fcinfo, 0), argument(fcinfo, 1), &difference))
         reject_range();
-    return result_of(size_of(value_of(a) - value_of(b)));
+    return result_of(difference);
 }
 
 SQL_FUNCTION(bytesize_times_numeric)

@@ -46,14 +46,6 @@ static uint32_t parse(struct text text, uint32_t flags, byte_unit_number *size)
     return byte_unit_parse(text.at, text.len, flags, size, NULL);
 }
 
-/* Returns -1, 0 or 1. */
-static int compare_numbers(byte_unit_number a, byte_unit_number b)
-{
-    if (a.high != b.high)
-        return a.high < b.high ? -1 : 1;
-    return (a.low > b.low) - (a.low < b.low);
-}
-
 /* Appends a value for a message: a number, a text in quotes, or what else it is. */
 static void append_value(sqlite3_str *out, sqlite3_value *value)
 {

@@ -132,44 +132,34 @@ struct total {
     uint64_t count;
 };
 
-static const byte_unit_number limit = BYTE_UNIT_SIZE_LIMIT_INIT;
-
-/* Returns the sum modulo 2^128. */
-static byte_unit_number plus(byte_unit_number a, byte_unit_number b)
-{
-    uint64_t low = a.low + b.low;
-    byte_unit_number sum = { low, a.high + b.high + (low < b.low) };
-
-    return sum;
-}
-
-/* Returns the difference modulo 2^128. */
-static byte_unit_number minus(byte_unit_number a, byte_unit_number b)
-{
-    byte_unit_number difference = { a.low - b.low, a.high - b.high - (a.low < b.low) };
-
-    return difference;
-}
+static const byte_unit_number greatest = { BYTE_UNIT_SIZE_LIMIT_LOW - 1, BYTE_UNIT_SIZE_LIMIT_HIGH }, one = { 1, 0 };
 
 static void add(struct total *total, byte_unit_number size)
 {
+    byte_unit_number room;
+
     total->count++;
-    total->rest = plus(total->rest, size);
-    if (compare_numbers(total->rest, limit) >= 0) {
-        total->rest = minus(total->rest, limit);
-        total->limits++;
-    }
+    if (byte_unit_add(total->rest, size, &total->rest))
+        return;
+    /* The limit is no size, so that one is taken away apart. */
+    byte_unit_subtract(greatest, size, &room);
+    byte_unit_subtract(total->rest, room, &total->rest);
+    byte_unit_subtract(total->rest, one, &total->rest);
+    total->limits++;
 }
 
 /* Takes away a size that was added before. */
 static void subtract(struct total *total, byte_unit_number size)
 {
+    byte_unit_number room;
+
     total->count--;
-    if (compare_numbers(total->rest, size) < 0) {
-        total->rest = plus(total->rest, limit);
-        total->limits--;
-    }
-    total->rest = minus(total->rest, size);
+    if (byte_unit_subtract(total->rest, size, &total->rest))
+        return;
+    byte_unit_subtract(greatest, size, &room);
+    byte_unit_add(total->rest, room, &total->rest);
+    byte_unit_add(total->rest, one, &total->rest);
+    total->limits--;
 }
 
 /* Adds the size of a row to the total of the aggregate, or takes it away. NULL changes nothing. */
@@ -294,7 +284,7 @@ static int compare_texts(void *unused, int a_len, const void *a_at, int b_len, c
     (void)unused;
     if (a_is_size != b_is_size)
         return a_is_size ? -1 : 1;
-    return a_is_size ? compare_numbers(a_size, b_size) : compare_bytes(a, b);
+    return a_is_size ? byte_unit_compare(a_size, b_size) : compare_bytes(a, b);
 }
 
 /* What each function is: its result depends on its arguments alone, so that indexes and generated columns may call it,

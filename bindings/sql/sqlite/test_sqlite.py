@@ -281,7 +281,7 @@ def test_statements(sql, name):
     """Compares what each statement prints with the comments after it."""
     text = read(f"bindings/sql/sqlite/{name}")
     if name == "README.md":
-        text = "".join(re.findall(r"^```sql\n\.load [^\n]*\n(.*?)^```$", text, re.M | re.S))
+        text = "".join(re.findall(r"^```sql\n(?:\.load [^\n]*\n)?(.*?)^```$", text, re.M | re.S))
     rows = rows_of(text)
     assert rows and wrong_of(sql, rows) == []
 

@@ -2,6 +2,7 @@
 pub mod Version
 pub mod Flags
 pub mod Values
+pub mod Arithmetic
 pub mod Codes
 pub mod Spec
 pub mod Error

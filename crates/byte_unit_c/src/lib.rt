@@ -9,6 +9,7 @@
 //! the header with the rest of its name.
 #![tactic(auto)]
 
+mod arithmetic;
 mod binary;
 mod codes;
 mod error;

@@ -10,6 +10,7 @@
 //! A slice crosses as a pointer and a length. A function whose name ends in `_to` is called by an inline function of
 //! the header with the rest of its name.
 
+mod arithmetic;
 mod binary;
 mod codes;
 mod error;

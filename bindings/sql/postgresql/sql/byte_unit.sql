@@ -43,6 +43,9 @@ INSERT INTO calls VALUES
     ($$size_pretty(NULL, 'both', NULL)$$, '22004 the precision cannot be NULL: '),
     ($$size_pretty('1', 'bits')$$, '22023 "bits" is not a unit type: binary, decimal or both is expected: '),
     ($$size_pretty('1', NULL)$$, '22004 the unit type cannot be NULL: '),
+    ($$concat_ws('|', size_pretty(1536), size_pretty(1536::bigint, 'decimal'), size_pretty(7::smallint), size_pretty(1e30 - 1, 'both', 0), size_pretty(0.5))$$, '1.5 KiB|1.5 KB|7 B|808 RiB|1 B'),
+    ($$concat_ws('|', size_pretty('1.5 KiB'), size_pretty('2 MB'::text, 'decimal', 2), size_pretty(NULL::text), size_pretty(NULL::bigint))$$, '1.5 KiB|2.00 MB'),
+    ($$size_pretty(-1)$$, '22003 bytesize out of range: A size is not negative and less than 10^30 bytes.'),
     ($$size_in('1'::bytesize, 'KiX')$$, '22023 "KiX" is not a unit: The character ''X'' is incorrect (''B'' or ''b'' or no character is expected) (character 3).'),
     ($$size_in('1'::bytesize, ' ')$$, '22023 " " is not a unit such as KiB or MB: ');
 -- Casts, and comparisons with numbers: no operator makes another ambiguous.

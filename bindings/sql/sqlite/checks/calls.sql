@@ -40,6 +40,7 @@ SELECT size_sum(column1), typeof(size_sum(column1)) FROM (VALUES (92233720368547
 SELECT size_sum(size_sum), size_text(size_sum(size_sum)) FROM (SELECT size_sum(column1) AS size_sum FROM (VALUES ('900 RB'), ('99 RB'))); -- 999000000000000000000000000000|999 RB
 SELECT group_concat(s, ' ') FROM (SELECT size_sum(column1) OVER (ROWS 1 PRECEDING) AS s FROM (VALUES ('16 EiB'), ('16 EiB'), ('16 EiB'))); -- 18446744073709551616 36893488147419103232 36893488147419103232
 SELECT size_sum(column1) FROM (VALUES ('1'), ('999999999999999999999999999999')); -- error: the sum of the sizes is 10^30 or more
+SELECT size_sum(column1) FROM (VALUES ('999999999999999999999999999999'), ('2')); -- error: the sum of the sizes is 10^30 or more
 SELECT size_sum(column1) FROM (VALUES ('999 RB'), ('999 RB'), ('1 x')); -- error: '1 x' is not a size: the character 'x' is incorrect ('B', 'K', 'M', 'G', 'T', 'P', 'E', 'Z', 'Y' or 'R' or no character is expected) (character 3)
 SELECT size_sum(column1) FILTER (WHERE size_try(column1) > 0) FROM (VALUES ('1 KB'), ('1 x')); -- 1000
 SELECT size_parse(1.5); -- error: the REAL value 1.5 is not a size: TEXT or an INTEGER is expected
