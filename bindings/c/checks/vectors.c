@@ -88,7 +88,7 @@ static void print_character(uint32_t c)
 }
 
 /* Prints an error as the vectors have it: the name of the code, and its details; and its position unless it is the one
- * that the call for it writes, or 0 if that writes none. */
+ * that the call for it writes, or 0 if only the size is too large or that call writes none. */
 static void print_error(uint32_t code, const byte_unit_error *error, const char *text,
                         bool (*position_of)(const char *, size_t, size_t *))
 {
@@ -107,7 +107,8 @@ static void print_error(uint32_t code, const byte_unit_error *error, const char 
         putchar(' ');
         print_decimal(error->number);
     }
-    position_of(text, strlen(text), &position);
+    if (code != BYTE_UNIT_EXCEEDED_BOUNDS)
+        position_of(text, strlen(text), &position);
     if (code != BYTE_UNIT_NOT_UTF8 && error->position != position)
         printf(" at %zu", error->position);
 }

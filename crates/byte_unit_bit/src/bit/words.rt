@@ -21,9 +21,8 @@ impl Bit {
     /// # Examples
     /// ```rust
     /// let words = ParseSpec::BITS.reading_words(true);
-    /// assert_eq!(rt; Bit::parse_str_as("10 Megabytes", words)?, Bit::parse_str("10 Mb", false)?);
-    /// let binary = ParseSpec::BINARY_BITS.reading_words(true);
-    /// assert_eq!(rt; Bit::parse_str_as("10 megabytes", binary)?, Bit::parse_str("10 Mib", false)?);
+    /// assert_eq!(rt; Bit::parse_str_as("10 bits", words)?, Bit::from_u64(10));
+    /// assert_eq!(rt; Bit::parse_str_as("1.5 Kib", words)?, Bit::from_u64(1536));
     /// assert!(rt; Bit::parse_str_as("5 octets", ParseSpec::BITS).is_err());
     /// ```
     pub fn parse_str_as(s: &str, spec: ParseSpec) -> Result<Bit, ParseError>

@@ -20,9 +20,8 @@ impl Byte {
     /// # Examples
     /// ```rust
     /// let words = ParseSpec::BYTES.reading_words(true);
-    /// assert_eq!(rt; Byte::parse_str_as("10 Megabytes", words)?, Byte::parse_str("10 MB", false)?);
-    /// let binary = ParseSpec::BINARY_BYTES.reading_words(true);
-    /// assert_eq!(rt; Byte::parse_str_as("10 megabytes", binary)?, Byte::parse_str("10 MiB", false)?);
+    /// assert_eq!(rt; Byte::parse_str_as("10 bytes", words)?, Byte::from_u64(10));
+    /// assert_eq!(rt; Byte::parse_str_as("1.5 KiB", words)?, Byte::from_u64(1536));
     /// assert!(rt; Byte::parse_str_as("5 octets", ParseSpec::BYTES).is_err());
     /// ```
     pub fn parse_str_as(s: &str, spec: ParseSpec) -> Result<Byte, ParseError>

@@ -21,9 +21,8 @@ impl Byte {
     /// use byte_unit::Byte;
     ///
     /// let words = ParseSpec::BYTES.reading_words(true);
-    /// assert_eq!(Byte::parse_str_as("10 Megabytes", words)?, Byte::parse_str("10 MB", false)?);
-    /// let binary = ParseSpec::BINARY_BYTES.reading_words(true);
-    /// assert_eq!(Byte::parse_str_as("10 megabytes", binary)?, Byte::parse_str("10 MiB", false)?);
+    /// assert_eq!(Byte::parse_str_as("10 bytes", words)?, Byte::from_u64(10));
+    /// assert_eq!(Byte::parse_str_as("1.5 KiB", words)?, Byte::from_u64(1536));
     /// assert!(Byte::parse_str_as("5 octets", ParseSpec::BYTES).is_err());
     /// # Ok::<(), Box<dyn std::error::Error>>(())
     /// ```
