@@ -91,14 +91,7 @@ pub(crate) fn word_start(text: &[u8]) -> usize
     start
 }
 
-/// Returns the unit that a word means.
-///
-/// # Examples
-/// ```rust
-/// assert_eq!(rt; unit_of_word(b"KiloBytes"), Some(Unit::KB));
-/// assert_eq!(rt; unit_of_word(b"kibits"), Some(Unit::Kibit));
-/// assert_eq!(rt; unit_of_word(b"gig"), None);
-/// ```
+/// Returns the unit that a word means: `KiloBytes` is KB, and `gig` means none.
 pub(crate) fn unit_of_word(word: &[u8]) -> Option<Unit>
     ensures { option_map shape_of result ≡ unit_of_word word.now }
 {

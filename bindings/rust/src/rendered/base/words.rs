@@ -62,7 +62,7 @@ pub(crate) fn word_start(text: &[u8]) -> usize {
     start
 }
 
-/// Returns the unit that a word means.
+/// Returns the unit that a word means: `KiloBytes` is KB, and `gig` means none.
 pub(crate) fn unit_of_word(word: &[u8]) -> Option<Unit> {
     let one = singular(word);
     let (len, bit) = counted_by_word(one)?;
