@@ -92,7 +92,7 @@ def shown_types():
     types, functions = items()
     headings = {f"`{name}`": types[name] for name in FIRST[:5]}
     headings["Specs and types of units"] = [*chain(*(types[name] for name in SMALL))]
-    headings["Errors"] = [*chain(*(types[name] for name in types if name not in FIRST + BELOW))]
+    headings["Errors"] = [*chain(*(types[name] for name in types if name not in FIRST + BELOW)), functions["hint_of"]]
     headings["`Unit`"] = headings["`Unit`"] + [functions["unit_to_json"], functions["unit_from_json"]]
     return headings
 
