@@ -34,7 +34,7 @@ def cargo(tmp_path_factory):
 def test_lines_alone(cargo):
     """Without the feature `command` there is no clap, and byte_unit_lines alone is installed."""
     assert "clap" not in cargo("tree", "--no-default-features")
-    cargo("install", "--path", ".", "--root", cargo.folder, "--no-default-features")
+    cargo("install", "--debug", "--path", ".", "--root", cargo.folder, "--no-default-features")
     assert os.listdir(cargo.folder / "bin") == ["byte_unit_lines"]
     assert ended(cargo.folder / "bin/byte_unit_lines", input=b"1KiB\n") == (0, b"1024 = 1 KiB\n", b"")
 

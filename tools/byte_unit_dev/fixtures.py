@@ -24,8 +24,10 @@ from .needs import CARGO_PROGRAMS, DEBIAN_PYTHON, PACKAGES, PYTHON_PACKAGE, SERD
 
 # The first cargo of the path, and Debian's.
 CARGOS = list(dict.fromkeys([shutil.which("cargo") or "cargo", "/usr/bin/cargo"]))
-# A folder that keeps what is built once for the next call, if there is one.
+# A folder that keeps what is built from one call to the next, with another mutant, if there is one.
 KEPT = os.environ.get("BYTE_UNIT_KEPT")
+# A folder that keeps it from one call to the next, of the same sources, if there is one.
+SHARED = os.environ.get("BYTE_UNIT_SHARED")
 # The programs that cargo makes, too, by their crates.
 BY_CARGO = {"byte_unit_cli": "byte-unit", "byte_unit_lines": "byte_unit_lines"}
 
@@ -110,7 +112,7 @@ def pytest_generate_tests(metafunc):
 def shared(tmp_path_factory, name):
     """A folder that the processes of one run share, of which one at a time fills it."""
     here = tmp_path_factory.getbasetemp()
-    folder = Path(KEPT or (here.parent if "PYTEST_XDIST_WORKER" in os.environ else here), name)
+    folder = Path(KEPT or SHARED or (here.parent if "PYTEST_XDIST_WORKER" in os.environ else here), name)
     folder.mkdir(parents=True, exist_ok=True)
     with open(f"{folder}.lock", "w", encoding="utf-8") as lock:
         fcntl.flock(lock, fcntl.LOCK_EX)
@@ -135,21 +137,29 @@ def program(request, made_by):
     return request.getfixturevalue("program_of")(crate)
 
 
+def library_in(tmp_path_factory, name, *words, **how):
+    """Returns a folder with what `tools/make-libraries` makes. The processes of one run share it, unless there is a
+    mutant, which may be in what makes it."""
+    kept = contextlib.nullcontext(tmp_path_factory.mktemp(name)) if KEPT else shared(tmp_path_factory, name)
+    with kept as folder:
+        made = Path(f"{folder}.made")
+        if not made.exists():
+            output(path("tools/make-libraries"), *words, folder, **how)
+            made.touch()
+        return str(folder)
+
+
 @pytest.fixture(scope="session")
 def library(request, tmp_path_factory):
     """A folder with libbyte_unit.a, byte_unit.h and what else `tools/make-libraries` makes."""
-    folder = str(tmp_path_factory.mktemp("library"))
-    output(path("tools/make-libraries"), *["--after-ci"] * request.config.getoption("after_ci"), folder)
-    return folder
+    return library_in(tmp_path_factory, "library", *["--after-ci"] * request.config.getoption("after_ci"))
 
 
 @pytest.fixture(scope="session")
 def library_of_rustc(cargo, tmp_path_factory):
     """The same, from the archive that cargo builds of the rendered Rust."""
-    folder = str(tmp_path_factory.mktemp("library-of-rustc"))
     here = environment(CARGO=cargo.cargo, RUSTC=cargo.variables["RUSTC"])
-    output(path("tools/make-libraries"), "--cargo", folder, env=here)
-    return folder
+    return library_in(tmp_path_factory, "library-of-rustc", "--cargo", env=here)
 
 
 @pytest.fixture(scope="session")

@@ -23,8 +23,11 @@ PARTS = {
     "programs": ("bindings/programs", "programs"), "agreement": ("bindings/test_agreement.py", "programs"),
     "vectors": ("vectors", "vectors"), **{part: (f"tools/tests/test_{part}.py", OF_TOOLS[part]) for part in OF_TOOLS},
 }  # fmt: skip
-# By pytest's names, the tests of these parts that need no more than cargo, which the gate runs at once: of the Rust
-# package, of other processors but aarch64, of JavaScript, of a clone, and those whose library or program rustc has made.
+# By pytest's names, the tests of these parts that need no more than cargo, or sources for `rt try`, which the gate runs
+# at once: of the Rust package, of other processors but aarch64, of JavaScript, of a clone, of the programs that cargo
+# makes unless they are compared with Rattle's, those whose library or program rustc has made, and of calls without an
+# allocator.
 BY_CARGO = ("(test_rust or test_targets and not aarch64 or test_js or test_page or test_browsers or rustc"
-            " or test_clone and not older) and not test_agreement and not test_postgresql")  # fmt: skip
+            " or test_clone and not older or test_programs and not alike or by_cargo or without_allocator)"
+            " and not test_agreement and not test_postgresql")  # fmt: skip
 CLONE_PACKAGES = sorted({PACKAGES[need] for *_, needs in PRODUCTS.values() for need in needs})

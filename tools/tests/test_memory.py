@@ -35,19 +35,26 @@ PROGRAMS = [*(("byte_unit_cli", *row) for row in CALLS), *(("byte_unit_lines", *
     ("", MANY), ("bit", b"1.5 KiB\n\n1Kbi\nx\n1YB"), ("byte", b"1 KB\n2 KB\n" + b"1" * 1_000_000), ("x y", b"")])]
 
 
-@pytest.mark.parametrize("crate, module", [("byte_unit_tests", "allocations"), ("byte_unit_serde_tests", "refused")])
-def test_calls_without_allocator(tmp_path, crate, module):
+@pytest.fixture(scope="module")
+def runs(tmp_path_factory):
+    """What the tests of both modules of failed allocations, in one crate, say as each of the first five fails."""
+    top, tests = tmp_path_factory.mktemp("allocations"), "crates/byte_unit_serde_tests/src/tests"
+    copy_to(top, "crates", "crates.txt")
+    for name in re.findall(r"^mod (\w+);", read(f"{tests}.rt"), re.M):
+        if name not in ("refused", "asserting"):
+            os.remove(top / tests / f"{name}.rt")
+    write(top / tests / "allocations.rt", read("crates/byte_unit_tests/src/tests/allocations.rt"))
+    write(top / f"{tests}.rt", "mod allocations;\nmod asserting;\nmod refused;\n")
+    how = {"cwd": top / "crates/byte_unit_serde_tests", "stderr": subprocess.PIPE}
+    with ThreadPoolExecutor(LANES) as pool:
+        return list(pool.map(lambda at: call("rt", "try", "--test", "--fail-alloc", at, **how), range(1, 6)))
+
+
+@pytest.mark.parametrize("module", ["allocations", "refused"])
+def test_calls_without_allocator(runs, module):
     """Those in refused.rt, of at most four allocations, pass as each fails; those in allocations.rt end with the error
     of each of their three. In the fifth run no allocation fails."""
-    copy_to(tmp_path, "crates", "crates.txt")
-    tests = f"crates/{crate}/src/tests"
-    for name in re.findall(r"^mod (\w+);", read(f"{tests}.rt"), re.M):
-        if name not in (module, "asserting"):
-            os.remove(tmp_path / tests / f"{name}.rt")
-    write(tmp_path / f"{tests}.rt", f"mod asserting;\nmod {module};\n")
-    how, names = {"cwd": tmp_path / "crates" / crate, "stderr": subprocess.PIPE}, set()
-    with ThreadPoolExecutor(LANES) as pool:
-        runs = list(pool.map(lambda at: call("rt", "try", "--test", "--fail-alloc", at, **how), range(1, 6)))
+    names = set()
     for number, run in enumerate(runs, 1):
         found = re.findall(rf"^test tests::{module}::(\S+) \.\.\. (\w+)\n(?:    (.*)\n)?", run.stdout, re.M)
         for name, end, error in found:
