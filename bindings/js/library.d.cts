@@ -21,6 +21,8 @@ export interface ReadingOptions {
 export interface SizeReadingOptions extends ReadingOptions {
     /** `K` and `KB` are by 1024, as `Ki` and `KiB` are. */
     binary?: boolean;
+    /** Words for units are read, too, as in `5 bytes` and `10 MegaBytes`. */
+    words?: boolean;
 }
 
 /** How a size is formatted. */
@@ -78,6 +80,8 @@ export class SizeError extends Error {
      *  its length if it has white space alone; of `not_utf8` that of the first lone surrogate; null if the size is too
      *  large. */
     readonly position: number | null;
+    /** How the size that was meant is written; null if there is no hint, or of a unit. */
+    readonly hint: string | null;
 }
 
 /** The names of the 38 units, in the order of their codes. */

@@ -3,7 +3,7 @@
 import { Columns, FIRST_OUT, indexOfByte, indexOfLone, Lists, Memory, stringsOf } from "./memory.js";
 import {
     BINARY, CODES, Error, flagsOf, OF_ADJUSTED, OF_APPROXIMATE, OF_CHOICE, OF_TEXT, OF_UNIT, optionsOf, textGiven,
-    TYPED, unitCode, UNITS,
+    TYPED, unitCode, UNITS, WORDS,
 } from "./options.js";
 
 export { CODES, UNITS };
@@ -13,7 +13,7 @@ const { fromCodePoint } = String, { assign } = Object;
 const [NOT_NUMBER, EXCEEDED_BOUNDS, UNIT, NOT_UTF8] = ["not_number", "exceeded_bounds", "unit", "not_utf8"].map(
     name => CODES.indexOf(name));
 // The version of the package, which is its module's: 3000000 is 3.0.0. And a module that has nothing.
-const OF_SIZE = OF_UNIT | BINARY, VERSION = 3000000, EMPTY_MODULE = Uint8Array.of(0, 97, 115, 109, 1, 0, 0, 0);
+const OF_SIZE = OF_UNIT | BINARY | WORDS, VERSION = 3000000, EMPTY_MODULE = Uint8Array.of(0, 97, 115, 109, 1, 0, 0, 0);
 
 /** The error of a text that is no size, or no unit. */
 export class SizeError extends Error {
@@ -25,10 +25,17 @@ export class SizeError extends Error {
     expected;
     alsoExpectNoCharacter;
     position;
+    #findHint;
 
-    constructor(message, fields) {
+    constructor(message, fields, findHint) {
         super(message);
         assign(this, fields);
+        this.#findHint = findHint;
+    }
+
+    /** How the size that was meant is written, or null. It is found when it is read, so that errors take no longer. */
+    get hint() {
+        return this.#findHint?.() ?? null;
     }
 }
 
@@ -76,6 +83,9 @@ function callsOf({ exports }) {
         return memory.read(ROOM + length, call(ROOM, length, flags, ROOM + length, FIRST_OUT));
     }
 
+    /** Writes the hint for a string, which is the same with all flags. */
+    const hintTo = (at, length, _, out, room) => exports.byte_unit_hint(at, length, out, room);
+
     /**
      * Returns the SizeError of a string that the library has just rejected as a size or a unit. In the byte_unit_error,
      * `character` is at 0, `also_expect_no_character` at 4, `expected`, 16 bytes with zeros at the end, at 5, and
@@ -99,7 +109,9 @@ function callsOf({ exports }) {
         else if (code !== EXCEEDED_BOUNDS)
             fields.position = indexOfByte(string, words[ERROR + 56 >> 2]);
         const call = ofUnit ? exports.byte_unit_explain_unit : exports.byte_unit_explain;
-        return new SizeError(explained(call, string, flags), fields);
+        // A text that is too large has a hint only if it is a size in words, which was read.
+        const hasHint = !ofUnit && code !== EXCEEDED_BOUNDS;
+        return new SizeError(explained(call, string, flags), fields, () => hasHint && explained(hintTo, string) || null);
     }
 
     // The members of Library in library.d.ts, which documents them.
@@ -108,7 +120,8 @@ function callsOf({ exports }) {
 
         parse(string, options) {
             const flags = flagsOf(options, OF_SIZE), length = memory.write(textGiven(string));
-            const call = flags & BINARY ? exports.byte_unit_parse_binary_to : exports.byte_unit_parse_to;
+            const call = flags < BINARY ? exports.byte_unit_parse_to
+                : flags & WORDS ? exports.byte_unit_parse_words_to : exports.byte_unit_parse_binary_to;
             const code = call(ROOM, length, flags, SIZE, ERROR, 1);
             if (code !== 0)
                 throw errorOf(string, code, flags, false);

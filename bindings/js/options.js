@@ -25,12 +25,12 @@ const FLAG = { type: "boolean", expected: "true or false", codes: null };
 const COUNT = { type: "number", expected: `an integer from 0 to ${MOST}`, codes: null };
 const choice = (first, ...names) => ({ type: "string", expected: `one of ${names.join(", ")}`,
     codes: codesFrom(first, names) });
-const OPTIONS = { bits: FLAG, ignoreCase: FLAG, binary: FLAG, typed: FLAG, alternate: FLAG, precision: COUNT, width: COUNT,
-    sign: choice(1, "plus", "minus"), align: choice(1, "left", "center", "right"),
+const OPTIONS = { bits: FLAG, ignoreCase: FLAG, binary: FLAG, words: FLAG, typed: FLAG, alternate: FLAG, precision: COUNT,
+    width: COUNT, sign: choice(1, "plus", "minus"), align: choice(1, "left", "center", "right"),
     unitType: choice(0, "binary", "decimal", "both") };
 // The flags of the options of reading: BYTE_UNIT_BITS and BYTE_UNIT_IGNORE_CASE together, which are 1 and 2,
-// BYTE_UNIT_BINARY_PREFIXES, and one of this package.
-export const OF_UNIT = 3, BINARY = 8, TYPED = 16;
+// BYTE_UNIT_BINARY_PREFIXES, BYTE_UNIT_WORDS, and one of this package.
+export const OF_UNIT = 3, BINARY = 8, WORDS = 16, TYPED = 256;
 // The options of the calls that format a size, and of the choice of a unit, with the codes that they have if they are not
 // given. A precision of -1 is none.
 export const OF_ADJUSTED = { bits: 0, precision: -1, width: 0, sign: 0, align: 0, alternate: 0 };
@@ -97,7 +97,8 @@ function codeOf(name, value) {
 
 /** Returns the flag of an option of reading: those of byte_unit.h, and TYPED; or 0. */
 function flagOf(name) {
-    return name === "bits" ? 1 : name === "ignoreCase" ? 2 : name === "binary" ? BINARY : name === "typed" ? TYPED : 0;
+    return name === "bits" ? 1 : name === "ignoreCase" ? 2 : name === "binary" ? BINARY : name === "words" ? WORDS
+        : name === "typed" ? TYPED : 0;
 }
 
 /** Returns the flags of options of reading, none if there are none. Throws a TypeError for one that is not `allowed`. */

@@ -113,6 +113,22 @@ ROWS = [
      ["😀", 3, "Bb", "1 K😀B"]),
     ("['1 x', '1 bix'].map(text => { try { parse(text); } catch (e) { return e.alsoExpectNoCharacter; } })", [True, False]),
     ("(() => { try { parse('1000 RB'); } catch (e) { return [e.code, e.position]; } })()", ["exceeded_bounds", None]),
+    *[(call % f"'{text}', {{ words: true, {options} }}", wanted) for text, options, size in (
+        ("5 bytes", "", 5), ("5bytes", "", 5), ("10 MegaBytes", "", 10**7), ("3 kibibits", "", 384), ("20 octets", "", 20),
+        ("3 kibibits", "bits: true", 3072), ("64 KBytes", "binary: true", 65536))
+      for call, wanted in (("parse(%s)", f"{size}n"), ("explain(%s)", None),
+                           ("((one, how) => parseMany([one, ''], how).sizes)(%s)", [f"{size}n", None]))],
+    ("[...parseMany(['5 bytes', ''], { typed: true, words: true }).sizes]", ["5n", "0n"]),
+    *[(f"[explain('{text}', {{ words: true }}) === explain('{text}'), explain('{text}') === null]", [True, False])
+      for text in ("5 byte s", "5 b\u00fftes")],
+    *[(f"(() => {{ try {{ {call}; }} catch (e) {{ return e.hint; }} }})()", hint) for call, hint in (
+        ("parse('5 bytes')", "write 'B', or read it with the option 'words'"), ("parse('2 gigs')", "write 'GB'"),
+        ("parse('1 Mbps')", "a size has no rate: leave out what it is per second"), ("parse('-1')", "a size is not negative"),
+        ("parse('1,024')", "digits are not grouped, and the point is '.'"),
+        ("parse('.5')", "a size begins with a number as in '12' or '1.5'"),
+        *[(call, None) for call in ("parse('5 KBx')", "parse('1000 RB')", "parse('5 b\u00ffte')", "parse('5\\ud800')",
+                                    "parseUnit('gigs')", "parse('1000 ronnabytes', { words: true })",
+                                    "throw new byteUnit.SizeError('theirs')")])],
     ("parse('0'.repeat(1000000) + '1')", "1n"), ("parseMany(Array(100000).fill('1.5 KiB')).sizes.length", 100000),
 ]  # fmt: skip
 
@@ -146,21 +162,21 @@ def test_options_that_are_undefined(javascript):
         ("text(1536, {})", "alternate bits precision width sign align", "1.5 KiB"),
         ("adjustedText(1536, 'KiB', {})", "alternate bits precision width sign align", "1.5 KiB"),
         ("approximateText(1536, {})", "alternate bits precision width sign align unitType", "1.5 KiB"),
-        ("appropriateUnit(1536, {})", "bits unitType", "KiB"), ("parse('10', {})", "bits ignoreCase binary", "10n"),
+        ("appropriateUnit(1536, {})", "bits unitType", "KiB"), ("parse('10', {})", "bits ignoreCase binary words", "10n"),
     )])  # fmt: skip
 
 
 # Calls with OPTIONS, each with the names that it takes; and for each name values, some of which would change a result.
 CALLS_WITH_OPTIONS = {
-    "parse('1 Kb', OPTIONS)": "bits ignoreCase binary",
-    "parseMany(['1 kb', 'x'], OPTIONS).sizes": "bits ignoreCase binary typed",
-    "explain('200 RB', OPTIONS)": "bits ignoreCase binary", "explainUnit('Kx', OPTIONS)": "bits ignoreCase",
+    "parse('1 Kb', OPTIONS)": "bits ignoreCase binary words",
+    "parseMany(['1 kb', 'x'], OPTIONS).sizes": "bits ignoreCase binary words typed",
+    "explain('200 RB', OPTIONS)": "bits ignoreCase binary words", "explainUnit('Kx', OPTIONS)": "bits ignoreCase",
     "parseUnit('k', OPTIONS)": "bits ignoreCase", "text(1536, OPTIONS)": "bits precision width sign align alternate",
     "adjustedText(1537, 'KiB', OPTIONS)": "bits precision width sign align alternate",
     "approximateText(1280, OPTIONS)": "bits precision width sign align alternate unitType",
     "appropriateUnit(1000, OPTIONS)": "bits unitType",
 }  # fmt: skip
-VALUES = {**dict.fromkeys(["bits", "ignoreCase", "binary", "typed", "alternate"], "true, false, 1, 7"),
+VALUES = {**dict.fromkeys(["bits", "ignoreCase", "binary", "words", "typed", "alternate"], "true, false, 1, 7"),
           "precision": "0, 70000, 'x'", "width": "30, 70000", "sign": "'minus', 2, 7", "align": "'right', 3, 7",
           "unitType": "'decimal', 1, 7"}  # fmt: skip
 # What gives a call an object that has or inherits `bits`, or none; RESULT if it is taken as `{ bits: true }`.
@@ -195,6 +211,7 @@ def test_options_that_are_inherited(javascript):
 
 # Calls of all kinds, of which one grows the memory, in its second turn.
 ANY_CALLS = ["parse('1.5 KiB')", "parse('10m', { binary: true, ignoreCase: true })", "parse('1 K\U0001f600')",
+             "parse('5 bytes', { words: true })", "(() => { try { parse('5 bytes'); } catch (e) { return e.hint; } })()",
              "parse(LONG[turn])", "parse('1 \\ud800')", "parse(5)", "parse('1', { nosuch: 1 })", "parseUnit('kib')", "parseUnit('Kx')",
              "explain('1Kx')", "explainUnit('K')", "text(1536)", "text(-1n)", "text(2 ** 53)", "approximateText(123456789)",
              "text(10n ** 29n, { precision: 28, width: 400, sign: 'plus' })", "adjustedText(1536n, 'KiB')",
@@ -213,7 +230,7 @@ CONSTRUCTORS = """["Array", "ArrayBuffer", "BigUint64Array", "Uint8Array", "Uint
     "Error", "RangeError", "TypeError", "Number", "Math", "JSON", "TextDecoder", "TextEncoder", "WebAssembly"].map(
     name => ({ one: globalThis, name, was: Object.getOwnPropertyDescriptor(globalThis, name) }))"""
 # Properties that every object is made to inherit.
-INHERITED = """[0, 1, 2, "bits", "binary", "typed", "precision", "width", "codes", "sizes", "found", "code", "position",
+INHERITED = """[0, 1, 2, "bits", "binary", "words", "typed", "precision", "width", "codes", "sizes", "found", "code", "position",
     "alsoExpectNoCharacter", "get", "value", "at", "length"].map(name => ({ one: Object.prototype, name }))"""
 
 
@@ -387,12 +404,13 @@ def test_a_column_that_is_rejected(javascript):
 
 # Calls, and how often each has the module parse: what is rejected is parsed once more, for the message.
 PARSED = {"parse('1 KB')": 1, "parse('1 x')": 2, "parse('1 x', { binary: true })": 2, "parseUnit('k')": 1,
+          "parse('5 bytes', { words: true })": 1, "parse('5 bytes')": 2,
           "parseUnit('x')": 2, "explain('1 KB')": 1, "explain('1 x')": 1, "explainUnit('x')": 1,
           "parseMany(['1 KB', '1 x'])": 1, "text(1536)": 0}  # fmt: skip
 
 
 def test_texts_that_are_parsed(javascript):
-    code = f"""{CHANGED}((name, one) => /_parse|_explain|_position/.test(name) ? (...all) => (count++, one(...all)) : one)
+    code = f"""{CHANGED}((name, one) => /_parse|_explain|_position|_hint/.test(name) ? (...all) => (count++, one(...all)) : one)
         .then(calls => [{", ".join(f"() => calls.{code}" for code in PARSED)}].map(call => {{
             try {{ globalThis.count = 0; call(); }} finally {{ return count; }}
         }}))"""

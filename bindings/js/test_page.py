@@ -111,7 +111,7 @@ def test_page_by_the_vectors(browser):
 # Texts at the ends of what the page tells apart, beside those that are drawn.
 EDGES = ["", " ", "1.", "0", "1", "1 b", "7 b", "8 b", "9 b", "1 B", "1 byte", "1 Kb", "8 Kb", "8 Mb", "1.5 KiB", "100 mb",
          "10m", "0.3 b", "1 RB", "1.1 RB", "8 RB", "999.999 RB", "1000 RB", "000.50 kib", "1000", "1.25 gb", "1 RiB",
-         "12 Kiq", "1.5 €", " 1 😀"]  # fmt: skip
+         "12 Kiq", "1.5 €", " 1 😀", "1 Mbps", "1,024"]  # fmt: skip
 
 
 def calls_of(seed, count=200):
@@ -188,6 +188,20 @@ def test_examples_and_readings(browser, place):
             assert use(browser, "[name=reading]", *how) == ["100 mb", reading, size.replace("_", NARROW_SPACE)]
 
 
+def test_words(browser, place):
+    """They are read in each reading while the control is set, by the mouse and by keys. The address keeps it."""
+    for key in (None, SPACE):
+        opened(browser, f"{place.as_uri()}#bytes=10%20MegaBytes")
+        size = f"10{NARROW_SPACE}000{NARROW_SPACE}000 bytes"
+        assert use(browser, "#words", 0, key) == ["10 MegaBytes", "bytes", size]
+        assert browser.execute_script("return document.querySelectorAll('.wrong').length") == 0
+        time.sleep(0.5)  # the address has the text after 0.2 s
+        link = browser.execute_script("return location.href")
+        assert link == f"{place.as_uri()}#bytes+words=10%20MegaBytes"
+        assert f"MegaBytes is MB: 10 × 1{NARROW_SPACE}000" in opened(browser, link)
+        assert use(browser, "#words", 0, key) == ["10 MegaBytes", "bytes", "e"]
+
+
 def test_copying(browser, place):
     """Each button copies what it says, by the mouse and by keys, and says whether the browser allows it."""
     opened(browser, f"{place.as_uri()}#bits=100%20mb")
@@ -260,7 +274,7 @@ def test_page_for_all(browser):
     for _ in range(20):
         browser.keys("\ue004")  # Tab
         seen.append(browser.execute_script(name))
-    assert {"reading", "number", "text", "link"} <= set(seen)
+    assert {"reading", "words", "number", "text", "link"} <= set(seen)
     live, about, axis, heading = browser.execute_script("""
         const all = [...document.querySelectorAll("h2")].map(heading => heading.textContent);
         const answer = document.getElementById("answer");
@@ -275,6 +289,7 @@ def test_page_for_all(browser):
     # The first text of the page is in the field if the fragment is none: the last has an escape that is cut.
     *[(fragment, "12_500_000 bytes") for fragment in ("1=x", "12bytes=5", "nosuch=1", "=", "bytes", "__proto__=1",
                                                       "a'b=1", "bytes=%E0%A4%A")],
+    ("binary+words=64 KBytes", "65_536 bytes"), ("bits+words=3 octets", "24 bits"), ("bytes+word=5", "12_500_000 bytes"),
     ("bits=1 Kb", "1_000 bits"), ("bytes=1%C2%85", "1 byte"), ("case=%201%20mb%20", "1_000_000 bytes"),
     ("bytes=", "␣"), ("bits=%00", "\0"), ("binary=1=2", "1=2"),
 ])  # fmt: skip

@@ -106,6 +106,7 @@ def test_its_c_with_sanitizers(library, tmp_path):
 # Calls, and the number of texts that each parses: what is rejected is parsed once more, for the message.
 PARSED = {
     "parse('1 KB')": 1, "parse('1 x')": 2, "parse('1 x', binary=True)": 2, "explain('1 KB')": 1, "explain('1 x')": 1,
+    "parse('5 bytes', words=True)": 1, "parse('5 bytes')": 2,
     "parse_unit('KiB')": 1, "parse_unit('x')": 2, "explain_unit('x')": 1, "parse_many(['1 KB', None, '1 x', ''])": 3,
     "parse_many(['1 KB', None, '1 x', ''], errors='raise')": 3, "parse_many(['1 KB', None], errors='raise')": 1,
     "parse_buffers(b'1 KB1 x', array('i', [0, 4, 7, 7]), validity=b'\\3')": 2,
@@ -119,6 +120,7 @@ def test_texts_that_are_parsed(counting_library, tmp_path):
     before = "from array import array; from byte_unit import *; "
     got = {code: call(DEBIAN_PYTHON, "-c", before + code, env=environment(PYTHONPATH=lib)).stdout for code in PARSED}
     assert {code: parsed(said) for code, said in got.items()} == PARSED
+    assert "a hint is found" not in "".join(got.values())  # where no one asks for it
 
 
 @pytest.mark.parametrize("kind", ["byte", "bit"])

@@ -164,13 +164,14 @@ def library_of_rustc(cargo, tmp_path_factory):
 
 @pytest.fixture(scope="session")
 def counting_library(library, tmp_path_factory):
-    """A folder with the library, of which each call that parses writes a line to standard error for each text."""
+    """A folder with the library: each call that parses, or finds a hint, writes a line to standard error for each text."""
     need("gcc", "ar", "objcopy")
     bodies = {}
     for name, (_, given, is_inline) in functions(read(f"{library}/{HEADER}")).items():
-        if not is_inline and re.search("_parse|_explain|_position", name):
+        if not is_inline and re.search("_parse|_explain|_position|_hint", name):
             texts, passed = "codes_len" if "codes_len" in given else "1", re.findall(r"(\w+)(?:,|$)", given)
-            count = f'for (size_t i = 0; i < {texts}; i++) fputs("a text is parsed\\n", stderr);'
+            said = "a hint is found" if name.endswith("_hint") else "a text is parsed"
+            count = f'for (size_t i = 0; i < {texts}; i++) fputs("{said}\\n", stderr);'
             bodies[name] = f"{count}\nreturn real({', '.join(passed)});"
     return replace_calls(library, tmp_path_factory.mktemp("counting"), bodies)
 

@@ -111,7 +111,8 @@ bool parse_flags(PyObject *const *objects, uint32_t *flags)
     *flags = BYTE_UNIT_BYTES;
     return add_flag(objects[0], "bits", BYTE_UNIT_BITS, flags) &&
            add_flag(objects[1], "ignore_case", BYTE_UNIT_IGNORE_CASE, flags) &&
-           add_flag(objects[2], "binary", BYTE_UNIT_BINARY_PREFIXES, flags);
+           add_flag(objects[2], "binary", BYTE_UNIT_BINARY_PREFIXES, flags) &&
+           add_flag(objects[3], "words", BYTE_UNIT_WORDS, flags);
 }
 
 /* Reads an int of at most 64 bits. If it has more or is negative, raises an OverflowError. */

@@ -227,7 +227,7 @@ static bool to_place(PyObject *module, PyObject *object, size_t *place)
     return number >= 0;
 }
 
-/* parse_buffers(data, offsets, validity or None, validity_offset, bits, ignore_case, binary, is_strict) */
+/* parse_buffers(data, offsets, validity or None, validity_offset, bits, ignore_case, binary, words, is_strict) */
 PyObject *parse_buffers(PyObject *module, PyObject *const *args, Py_ssize_t count)
 {
     uint32_t is_strict = 0;
@@ -235,8 +235,8 @@ PyObject *parse_buffers(PyObject *module, PyObject *const *args, Py_ssize_t coun
     validity validity = {NULL, 0};
     texts texts = {.data = &data};
     rejection rejection;
-    if (!has_arguments(count, 8) || !to_place(module, args[3], &validity.offset) ||
-        !parse_flags(args + 4, &texts.flags) || !add_flag(args[7], "is_strict", 1, &is_strict) ||
+    if (!has_arguments(count, 9) || !to_place(module, args[3], &validity.offset) ||
+        !parse_flags(args + 4, &texts.flags) || !add_flag(args[8], "is_strict", 1, &is_strict) ||
         PyObject_GetBuffer(args[0], &data, PyBUF_SIMPLE)) {
         return NULL;
     }

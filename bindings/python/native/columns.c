@@ -201,11 +201,11 @@ static PyObject *to_items(PyObject *iterable)
     return items;
 }
 
-/* parse_many(texts, bits, ignore_case, binary, is_strict) */
+/* parse_many(texts, bits, ignore_case, binary, words, is_strict) */
 PyObject *parse_many(PyObject *module, PyObject *const *args, Py_ssize_t count)
 {
     uint32_t flags, is_strict = 0;
-    if (!has_arguments(count, 5) || !parse_flags(args + 1, &flags) || !add_flag(args[4], "is_strict", 1, &is_strict)) {
+    if (!has_arguments(count, 6) || !parse_flags(args + 1, &flags) || !add_flag(args[5], "is_strict", 1, &is_strict)) {
         return NULL;
     }
     PyObject *items = to_items(args[0]);

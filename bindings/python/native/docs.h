@@ -7,13 +7,15 @@
 #define OUT_OF_RANGE "Raises `ByteUnitError` if an argument is out of range.\n\n"
 
 #define PARSE_DOC \
-    HEAD("parse($module, text, *, bits=False, ignore_case=False, binary=False)") \
+    HEAD("parse($module, text, *, bits=False, ignore_case=False, binary=False, words=False)") \
     "Parses a size: a number and a unit, or a number alone.\n\n" \
     "Returns the number of bytes, or of bits with `bits`, rounded up to a whole one. White space at both ends\n" \
     "is ignored. A text without a unit is in bytes, or in bits with `bits`. `B` means bytes, and `b` bits\n" \
     "unless `ignore_case` is set, which makes it bytes; with `bits` that flag has no effect.\n\n" \
     "`K` and `KB` are by 1000, up to `R` and `RB`; with `binary` they are by 1024, as `Ki` and `KiB` always\n" \
     "are. So nginx, docker, the JVM and PostgreSQL mean them, where `b` is bytes: with `ignore_case` too.\n\n" \
+    "With `words`, words for units are read too: a prefix by its name or its letters, or none, then `byte`,\n" \
+    "`octet` or `bit`, in the singular or the plural, in either case. No text that is a size without it changes.\n\n" \
     "An `int` in place of a text is returned as it is, if it is a size. A `float` is a `TypeError`: write it with\n" \
     "its unit, as a text.\n\n" \
     "Raises `SizeError` if the text is not a size, and `ByteUnitError` if an `int` is not. Bytes are taken as\n" \
@@ -26,13 +28,15 @@
     "8000\n" \
     ">>> parse(\"10m\", binary=True), parse(\"128 mb\", binary=True, ignore_case=True)\n" \
     "(10485760, 134217728)\n" \
+    ">>> parse(\"5 bytes\", words=True), parse(\"64 KBytes\", words=True, binary=True)\n" \
+    "(5, 65536)\n" \
     ">>> parse(\"1 KX\")\n" \
     "Traceback (most recent call last):\n" \
     "byte_unit.SizeError: '1 KX' is not a size: the character 'X' is incorrect ('B' or 'b' or no character is " \
     "expected) (character 4)"
 
 #define EXPLAIN_DOC \
-    HEAD("explain($module, text, *, bits=False, ignore_case=False, binary=False)") \
+    HEAD("explain($module, text, *, bits=False, ignore_case=False, binary=False, words=False)") \
     "Returns the reason in the message of the error that `parse` raises, or `None` if the text is a size.\n\n" \
     "It ends with the number of the first wrong character, from 1, or with \"(at the end of the text)\", unless\n" \
     "only the size is too large or the text is not UTF-8.\n\n" \

@@ -24,8 +24,8 @@ static PyMethodDef CALLS[] = {
 
 /* The functions that the Python modules of the package call. */
 static PyMethodDef METHODS[] = {
-    PRIVATE(parse_many), PRIVATE(parse_buffers), PRIVATE(ints), PRIVATE(part), PRIVATE(sum), PRIVATE(extremum),
-    PRIVATE(first_large), PRIVATE(int64), PRIVATE(float64), PRIVATE(mask),
+    PRIVATE(hint), PRIVATE(parse_many), PRIVATE(parse_buffers), PRIVATE(ints), PRIVATE(part), PRIVATE(sum),
+    PRIVATE(extremum), PRIVATE(first_large), PRIVATE(int64), PRIVATE(float64), PRIVATE(mask),
     {NULL, NULL, 0, NULL},
 };
 

@@ -97,7 +97,7 @@ bool has_arguments(Py_ssize_t count, Py_ssize_t expected);
 bool wrong_type(const char *name, const char *expected, PyObject *object);
 /* Adds the flag if the object is True. NULL is False. */
 bool add_flag(PyObject *object, const char *name, uint32_t flag, uint32_t *flags);
-/* Reads the flags `bits`, `ignore_case` and `binary` of a call that parses. */
+/* Reads the flags `bits`, `ignore_case`, `binary` and `words` of a call that parses. */
 bool parse_flags(PyObject *const *objects, uint32_t *flags);
 /* Reads a size, a number of units, and a precision or a width. */
 bool to_size(PyObject *module, PyObject *object, byte_unit_number *size);
@@ -183,7 +183,7 @@ typedef PyObject *function(PyObject *module, PyObject *const *args, Py_ssize_t c
 
 call parse, explain, parse_unit, explain_unit;
 call text_of, adjusted_text, approximate_text, appropriate_unit, exact_unit, recoverable_unit, from_unit;
-function parse_many, parse_buffers;
+function hint, parse_many, parse_buffers;
 function ints, part, sum, extremum, first_large, int64, float64, mask;
 
 /* Returns a tuple of the names of the codes, and one of the names of the units. */

@@ -26,14 +26,14 @@ PyObject *code_names(void)
     return names;
 }
 
-#define SIZE_PARAMETERS {"text", "bits", "ignore_case", "binary"}
+#define SIZE_PARAMETERS {"text", "bits", "ignore_case", "binary", "words"}
 #define UNIT_PARAMETERS {"text", "bits", "ignore_case"}
 
 /* Reads the arguments but for the text, which it leaves as the object that was passed. */
 static bool read_flags(const signature *signature, PyObject *const *args, Py_ssize_t count, PyObject *names,
                            rejection *given)
 {
-    PyObject *objects[4] = {NULL};
+    PyObject *objects[5] = {NULL};
     given->flags = BYTE_UNIT_BYTES;
     given->row = -1;
     if (!place(signature, args, count, names, objects) || (names && !parse_flags(objects + 1, &given->flags))) {
@@ -68,7 +68,7 @@ static PyObject *parse_number(PyObject *module, PyObject *object)
 
 PyObject *parse(PyObject *module, PyObject *const *args, Py_ssize_t count, PyObject *names)
 {
-    static const signature SIGNATURE = {"parse", 1, 4, SIZE_PARAMETERS};
+    static const signature SIGNATURE = {"parse", 1, 5, SIZE_PARAMETERS};
     rejection given;
     byte_unit_number size;
     if (!read_flags(&SIGNATURE, args, count, names, &given)) {
@@ -113,7 +113,7 @@ static PyObject *explained(const signature *signature, PyObject *const *args, Py
 
 PyObject *explain(PyObject *module, PyObject *const *args, Py_ssize_t count, PyObject *names)
 {
-    static const signature SIGNATURE = {"explain", 1, 4, SIZE_PARAMETERS};
+    static const signature SIGNATURE = {"explain", 1, 5, SIZE_PARAMETERS};
     (void)module;
     return explained(&SIGNATURE, args, count, names, byte_unit_explain);
 }
@@ -123,4 +123,18 @@ PyObject *explain_unit(PyObject *module, PyObject *const *args, Py_ssize_t count
     static const signature SIGNATURE = {"explain_unit", 1, 3, UNIT_PARAMETERS};
     (void)module;
     return explained(&SIGNATURE, args, count, names, byte_unit_explain_unit);
+}
+
+/* hint(text) */
+PyObject *hint(PyObject *module, PyObject *const *args, Py_ssize_t count)
+{
+    char out[BYTE_UNIT_HINT_SIZE];
+    text text;
+    (void)module;
+    if (!has_arguments(count, 1) || !to_text(args[0], &text)) {
+        return NULL;
+    }
+    size_t len = byte_unit_hint(text.bytes, (size_t)text.len, out, sizeof out);
+    release_text(&text);
+    return len ? from_ascii(out, len) : Py_NewRef(Py_None);
 }

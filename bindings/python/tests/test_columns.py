@@ -51,7 +51,7 @@ class Lists(unittest.TestCase):
         self.assertEqual(byte_unit.parse_many(["9 b", "1 kb"], ignore_case=True).ints(), [9, 1000])
         self.assertEqual(byte_unit.parse_many(["9 b", "1 KB"], bits=True).ints(), [9, 8000])
         self.assertEqual(byte_unit.parse_many(["9 K", "1 KiB"], binary=True).ints(), [9216, 1024])
-        for flag in ("bits", "ignore_case", "binary"):
+        for flag in ("bits", "ignore_case", "binary", "words"):
             with self.assertRaises(TypeError):
                 byte_unit.parse_many([], **{flag: 1})
             with self.assertRaises(TypeError):

@@ -43,7 +43,7 @@ def caught(text: str | bytes) -> SizeError:
 
 
 def fields(error: SizeError) -> tuple[object, ...]:
-    names = "name character expected also_expect_no_character number text data row position args".split()
+    names = "name character expected also_expect_no_character number text data row position hint args".split()
     return (str(error), *(getattr(error, name) for name in names))
 
 

@@ -71,8 +71,8 @@ class Package(unittest.TestCase):
 
     def test_arguments(self) -> None:
         """Flags and options are keyword-only, and have one default each, but for those in `own`."""
-        defaults = {"bits": False, "ignore_case": False, "binary": False, "either_kind": False, "alternate": False,
-                    "unit_type": "binary", "errors": "coerce", "validity_offset": 0}  # fmt: skip
+        defaults = {"bits": False, "ignore_case": False, "binary": False, "words": False, "either_kind": False,
+                    "alternate": False, "unit_type": "binary", "errors": "coerce", "validity_offset": 0}  # fmt: skip
         own = {("recoverable_unit", "precision"): 3, ("approximate_text", "precision"): 1, ("text", "alternate"): True}
         for name in byte_unit.__all__:
             value = getattr(byte_unit, name)
@@ -172,7 +172,7 @@ class Arguments(unittest.TestCase):
 
     def test_private_calls(self) -> None:
         """The other functions reject what the modules above them never pass."""
-        names = "parse_many parse_buffers ints part sum extremum first_large int64 float64 mask"
+        names = "hint parse_many parse_buffers ints part sum extremum first_large int64 float64 mask"
         for call in names.split():
             with self.subTest(call), self.assertRaises(TypeError):
                 getattr(_native, call)()
@@ -232,7 +232,7 @@ WRONG: list[Any] = ["x", "1" * 40, "1000.5 RB", "1 Kx" * 20, b"\xff", "\ud800", 
 MANY, OFFSETS = ["1 KB", "x", None, "\ud800", "é"] * 5, array("q", [0, 1, 2])
 COLUMN = byte_unit.parse_many(MANY)
 KINDS: list[Callable[[], object]] = [
-    lambda: [*map(byte_unit.parse, ["999 RB", "1"])], lambda: [*map(byte_unit.explain, WRONG)],
+    lambda: [*map(byte_unit.parse, ["999 RB", "1"])], lambda: [*map(byte_unit.explain, WRONG), *map(_native.hint, WRONG)],
     lambda: byte_unit.parse_many(MANY), lambda: byte_unit.parse_buffers(b"1x", OFFSETS, validity=b"\1"),
     lambda: byte_unit.text(10**29 + 1, width=400), lambda: byte_unit.approximate_text(10**29 + 1, width=400),
     lambda: byte_unit.recoverable_unit(10**29 + 1, precision=28), lambda: byte_unit.text(10**30),
@@ -346,7 +346,7 @@ class NoMemory(unittest.TestCase):
             for place in range(20):
                 module = importlib.util.module_from_spec(spec)  # a new one, which has not seen pandas
                 spec.loader.exec_module(module)
-                call = partial(module.parse_many, [pandas.NA, pandas.NaT], False, False, False, False)
+                call = partial(module.parse_many, [pandas.NA, pandas.NaT], *[False] * 5)
                 self.assertIn(outcome(partial(fails, place, call)), (MemoryError, (bytes(32), b"\7\7")))
                 self.assertEqual(call(), (bytes(32), b"\7\7"))
 

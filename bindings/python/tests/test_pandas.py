@@ -93,6 +93,7 @@ class ToSizes(unittest.TestCase):
         self.assertEqual(to_sizes(quota, ignore_case=True).tolist(), [9])
         self.assertEqual(to_sizes(quota, bits=True).tolist(), [9])
         self.assertEqual(to_sizes(pandas.Series(["100 mb"]), ignore_case=True, binary=True).tolist(), [100 * 2**20])
+        self.assertEqual(to_sizes(pandas.Series(["5 bytes"]), words=True).tolist(), [5])
 
     def test_large_sizes(self) -> None:
         for size in (2**63 - 1, 2**63, 2**64, 10**30 - 1):

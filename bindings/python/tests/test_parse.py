@@ -28,6 +28,16 @@ POSITIONS = [(2, "1."), (4, "  1.  "), (1, "\u00a0x"), (4, "\u30001 K\u00d6B"), 
              (None, "1000.5 RB"), (None, "1\ud800"), (None, b"\xff")]  # fmt: skip
 UNIT_POSITIONS = [(4, " Kbi "), (1, "K\u00d6B"), (1, "\u3000\u00e9"), (None, "\ud800")]
 
+# texts in words, the flags beside `words`, and their sizes
+WORDS = [("5 bytes", {}, 5), ("5bytes", {}, 5), ("10 MegaBytes", {}, 10**7), ("3 kibibits", {}, 384),
+         ("3 kibibits", {"bits": True}, 3072), ("64 KBytes", {"binary": True}, 65536), ("20 octets", {}, 20)]  # fmt: skip
+# texts that are rejected without words, and their hints
+HINTS = [("5 bytes", "write 'B', or read it with the option 'words'"), ("2 gigs", "write 'GB'"),
+         ("1 Mbps", "a size has no rate: leave out what it is per second"),
+         ("1,024", "digits are not grouped, and the point is '.'"), ("-1", "a size is not negative"),
+         (".5", "a size begins with a number as in '12' or '1.5'"), ("5 KBx", None), ("1000 RB", None), ("\ud800", None),
+         ("5 b\u00ffte", None)]  # fmt: skip
+
 
 def caught(call: Callable[..., object], argument: object, **options: object) -> SizeError:
     try:
@@ -47,17 +57,43 @@ class Parse(unittest.TestCase):
                 self.assertEqual((error.args[0], byte_unit.explain(text, **flags)), (message, message))
                 self.assertIn(error.name, byte_unit.ERROR_NAMES)
 
+    def check_size(self, text: str, size: int, **flags: bool) -> None:
+        """Checks that each call reads the text as the size."""
+        with self.subTest(text, **flags):
+            self.assertEqual(byte_unit.parse(text, **flags), size)
+            self.assertEqual(byte_unit.parse_many([text, None], **flags).ints(), [size, None])
+            offsets = array("i", [0, len(text)])
+            self.assertEqual(byte_unit.parse_buffers(text.encode(), offsets, **flags)[0], size)
+            self.assertIsNone(byte_unit.explain(text, **flags))
+
     def test_binary_prefixes(self) -> None:
         for text, flags, size in [("10m", {}, 10 * 2**20), ("1.5 KiB", {}, 1536), ("0.1 K", {}, 103),
                                   ("100 mb", {"ignore_case": True}, 100 * 2**20), ("1 Kb", {"bits": True}, 1024)]:  # fmt: skip
-            with self.subTest(text, **flags):
-                self.assertEqual(byte_unit.parse(text, binary=True, **flags), size)
-                self.assertEqual(byte_unit.parse_many([text, None], binary=True, **flags).ints(), [size, None])
-                offsets = array("i", [0, len(text)])
-                self.assertEqual(byte_unit.parse_buffers(text.encode(), offsets, binary=True, **flags)[0], size)
-                self.assertIsNone(byte_unit.explain(text, binary=True, **flags))
+            self.check_size(text, size, binary=True, **flags)
         with self.assertRaises(TypeError):
             byte_unit.parse_unit("K", binary=True)
+
+    def test_words(self) -> None:
+        for text, flags, size in WORDS:
+            self.check_size(text, size, words=True, **flags)
+            self.assertEqual(caught(byte_unit.parse, text, **flags).name, "unit")
+        for text in ("5 byte s", "5 b\u00fftes"):
+            error = caught(byte_unit.parse, text)
+            self.assertEqual(caught(byte_unit.parse, text, words=True).args, error.args)
+            self.assertEqual(byte_unit.explain(text, words=True), error.args[0])
+
+    def test_hints(self) -> None:
+        for text, hint in HINTS:
+            with self.subTest(text):
+                self.assertEqual(caught(byte_unit.parse, text).hint, hint)
+                self.assertEqual(caught(byte_unit.parse, text.encode(errors="surrogatepass")).hint, hint)
+        self.assertIsNone(caught(byte_unit.parse_unit, "gigs").hint)
+        made = SizeError("a message", "unit")
+        self.assertIsNone(made.hint)
+        made.text = "5 KB"  # a size
+        self.assertIsNone(made.hint)
+        self.assertIsNone(caught(byte_unit.parse, "1000 ronnabytes", words=True).hint)  # it is read, and too large
+        self.assertEqual(caught(byte_unit.parse_many, ["5 bytes"], errors="raise").hint, HINTS[0][1])
 
     def test_positions(self) -> None:
         """`text[position]` is the wrong character, or the text ends there, before white space."""
@@ -77,7 +113,7 @@ class Parse(unittest.TestCase):
             for wrong in (None, 1.5, True, ["1"], bytearray(b"1"), memoryview(b"1"), object()):
                 with self.subTest(call.__name__, wrong=wrong), self.assertRaises(TypeError):
                     call(wrong)
-            flags = ["bits", "ignore_case"] + ["binary"] * (call in (byte_unit.parse, byte_unit.explain))
+            flags = ["bits", "ignore_case"] + ["binary", "words"] * (call in (byte_unit.parse, byte_unit.explain))
             for flag in flags:
                 for value in (None, 0, 1, "no", 1.0):
                     with self.subTest(call.__name__, flag=flag, value=value), self.assertRaises(TypeError):

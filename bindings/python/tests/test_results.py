@@ -206,6 +206,8 @@ class Errors(unittest.TestCase):
         self.assertEqual([error.expected for _, error in column.errors(iter(texts), ignore_case=True)], ["B"])
         column = byte_unit.parse_many(["900 RB"], binary=True)
         self.assertEqual([error.name for _, error in column.errors(["900 RB"], binary=True)], ["exceeded_bounds"])
+        column = byte_unit.parse_many(["1000 RBytes"], words=True)
+        self.assertEqual([error.name for _, error in column.errors(["1000 RBytes"], words=True)], ["exceeded_bounds"])
 
     def test_other_texts(self) -> None:
         column = byte_unit.parse_many(["1", "x"])

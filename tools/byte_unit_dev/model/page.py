@@ -6,6 +6,7 @@ from urllib.parse import quote
 
 from .answers import in_unit, located, position, text_of
 from .exact import BITS, SCALE, UNITS, WHITE_SPACE, Rejected, read, size_of
+from .words import hint
 
 NARROW_SPACE, END = "\u202f", "␣"
 # The readings by their keys in the address: the name, the kind of the size, and whether the case is ignored and whether
@@ -45,13 +46,13 @@ def reason(text, reading):
 
 def of_error(text, size):
     """Returns the answer to a text that is no size, and what is marked in it."""
-    message = located(text.encode(), size)
-    said = f"Not a size: {message[0].upper()}{message[1:]}."
+    message, found = located(text.encode(), size), hint(text.strip(WHITE_SPACE))
+    said = [f"Not a size: {message[0].upper()}{message[1:]}.", *[f"Hint: {found}."] * bool(found)]
     if size.name == "out of range":
-        return [text, said], None
+        return [text, *said], None
     place = len(text.encode()[: int(position("byte", text))].decode())
     is_end = place == len(text)
-    return [text + END * is_end, said], END if is_end else text[place]
+    return [text + END * is_end, *said], END if is_end else text[place]
 
 
 def row_of_reading(text, reading, chosen):

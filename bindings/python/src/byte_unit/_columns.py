@@ -128,8 +128,9 @@ class Column(Sequence["int | None"]):
 
         @overload
         def errors(
-            self, texts: None = None, *, bits: bool = False, ignore_case: bool = False, binary: bool = False
-        ) -> Iterator[tuple[int, str]]: ...
+            self, texts: None = None, *, bits: bool = False, ignore_case: bool = False, binary: bool = False,
+            words: bool = False,
+        ) -> Iterator[tuple[int, str]]: ...  # fmt: skip
 
         @overload
         def errors(
@@ -139,6 +140,7 @@ class Column(Sequence["int | None"]):
             bits: bool = False,
             ignore_case: bool = False,
             binary: bool = False,
+            words: bool = False,
         ) -> Iterator[tuple[int, SizeError]]: ...
 
     def errors(
@@ -148,6 +150,7 @@ class Column(Sequence["int | None"]):
         bits: bool = False,
         ignore_case: bool = False,
         binary: bool = False,
+        words: bool = False,
     ) -> "Iterator[tuple[int, str]] | Iterator[tuple[int, SizeError]]":
         """Returns an iterator over the row of each text that is rejected, and the reason.
 
@@ -165,7 +168,7 @@ class Column(Sequence["int | None"]):
         if texts is None:
             rows = compress(range(len(self._codes)), self._codes.translate(_REJECTED))
             return ((row, ERROR_NAMES[self._codes[row]]) for row in rows)
-        return self._size_errors(texts, {"bits": bits, "ignore_case": ignore_case, "binary": binary})
+        return self._size_errors(texts, {"bits": bits, "ignore_case": ignore_case, "binary": binary, "words": words})
 
     def _size_errors(
         self, texts: "Iterable[str | bytes | None]", flags: "dict[str, bool]"
@@ -287,6 +290,7 @@ def parse_many(
     bits: bool = False,
     ignore_case: bool = False,
     binary: bool = False,
+    words: bool = False,
     errors: "Errors" = "coerce",
 ) -> Column:
     """Parses each text of a list or another iterable, such as an array of numpy or a series of pandas, as `parse` does.
@@ -305,7 +309,7 @@ def parse_many(
     byte_unit.SizeError: texts[1]: '-1' is not a size: the character '-' is not a number (character 1)
     """
     _check("errors", errors, ("coerce", "raise"))
-    return Column(*_native.parse_many(_items(texts), bits, ignore_case, binary, errors == "raise"))
+    return Column(*_native.parse_many(_items(texts), bits, ignore_case, binary, words, errors == "raise"))
 
 
 def parse_buffers(
@@ -317,6 +321,7 @@ def parse_buffers(
     bits: bool = False,
     ignore_case: bool = False,
     binary: bool = False,
+    words: bool = False,
     errors: "Errors" = "coerce",
 ) -> Column:
     """Parses texts in Arrow's layout: text `i` is `data[offsets[i]:offsets[i + 1]]`. No object is made of a text.
@@ -341,7 +346,7 @@ def parse_buffers(
     [None, 2048]
     """
     _check("errors", errors, ("coerce", "raise"))
-    flags = bits, ignore_case, binary, errors == "raise"
+    flags = bits, ignore_case, binary, words, errors == "raise"
     try:
         found = _native.parse_buffers(data, offsets, validity, validity_offset, *flags)
     except ByteUnitError:

@@ -59,6 +59,8 @@ class SizeError(ByteUnitError):
     not `None`, that of a byte in it. If the text ends too early, it is the index of its end, before white space there;
     of white space alone, its length. It is `None` if only the size is too large, and for `not_utf8`.
 
+    `hint` tells how the size that was meant is written, as `write 'GB'` for `2 gigs`, or is `None`. A unit has none.
+
     `row` is the place of the text in a column, if `parse_many` or `parse_buffers` raises the error; then the message
     has it too.
 
@@ -97,6 +99,16 @@ class SizeError(ByteUnitError):
         """The name of the code. It is read from `args`, so that the dictionary of an error has at most five fields."""
         name: str = self.args[1]
         return name
+
+    @property
+    def hint(self) -> "str | None":
+        """How the size that was meant is written, or `None`. It is found when it is read."""
+        # A text that is too large has one only if it is a size in words, which was read.
+        if "text" not in vars(self) or self._of_unit or self.name == "exceeded_bounds":
+            return None
+        from . import _native  # which imports this module
+
+        return _native.hint(self.text)
 
     def __str__(self) -> str:
         """Returns the message, which is the reason alone if there is no text."""

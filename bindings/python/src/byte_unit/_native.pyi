@@ -13,10 +13,11 @@ UNITS: Final[tuple[str, ...]]
 CODES: Final[tuple[str, ...]]
 
 def parse(
-    text: str | bytes | SupportsIndex, *, bits: bool = False, ignore_case: bool = False, binary: bool = False
-) -> int: ...
+    text: str | bytes | SupportsIndex, *, bits: bool = False, ignore_case: bool = False, binary: bool = False,
+    words: bool = False,
+) -> int: ...  # fmt: skip
 def explain(
-    text: str | bytes, *, bits: bool = False, ignore_case: bool = False, binary: bool = False
+    text: str | bytes, *, bits: bool = False, ignore_case: bool = False, binary: bool = False, words: bool = False
 ) -> str | None: ...
 def parse_unit(text: str | bytes, *, bits: bool = False, ignore_case: bool = False) -> str: ...
 def explain_unit(text: str | bytes, *, bits: bool = False, ignore_case: bool = False) -> str | None: ...
@@ -58,8 +59,9 @@ def recoverable_unit(
     size: SupportsIndex, *, bits: bool = False, either_kind: bool = False, precision: SupportsIndex = 3
 ) -> tuple[Decimal, str]: ...
 def from_unit(count: SupportsIndex, unit: str, *, bits: bool = False) -> int: ...
+def hint(text: str | bytes, /) -> str | None: ...
 def parse_many(
-    texts: object, bits: bool, ignore_case: bool, binary: bool, is_strict: bool, /
+    texts: object, bits: bool, ignore_case: bool, binary: bool, words: bool, is_strict: bool, /
 ) -> tuple[bytes, bytes]: ...
 def parse_buffers(
     data: object,
@@ -69,6 +71,7 @@ def parse_buffers(
     bits: bool,
     ignore_case: bool,
     binary: bool,
+    words: bool,
     is_strict: bool,
     /,
 ) -> tuple[bytes, bytes]: ...

@@ -65,6 +65,7 @@ def to_sizes(
     bits: bool = False,
     ignore_case: bool = False,
     binary: bool = False,
+    words: bool = False,
     errors: Literal["coerce", "raise"] = "raise",
     overflow: Literal["raise", "null", "saturate"] | None = None,
 ) -> "pandas.Series":
@@ -92,7 +93,8 @@ def to_sizes(
     byte_unit.SizeError: texts[1]: '' is not a size: no value can be found (at the end of the text)
     """
     _check_series("texts", texts)
-    many, column = _parsed(texts.to_numpy(object), errors, bits=bits, ignore_case=ignore_case, binary=binary)
+    flags = {"bits": bits, "ignore_case": ignore_case, "binary": binary, "words": words}
+    many, column = _parsed(texts.to_numpy(object), errors, **flags)
     overflow = overflow or ("raise" if errors == "raise" else "null")
     if overflow == "raise":
         _reject_large(column, many, bits)
