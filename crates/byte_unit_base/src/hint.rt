@@ -7,7 +7,7 @@ ghost use Rattle.std.specs.Str.{IsAscii};
 ghost use Rattle.byte_unit_base.specs.Grammar.SizeText.{trim_of};
 ghost use Rattle.byte_unit_base.specs.Grammar.Units.{shape_of};
 ghost use Rattle.byte_unit_base.specs.Errors.Hints.{is_size, number_len, has_other_form, is_other_number, is_grouped};
-ghost use Rattle.byte_unit_base.specs.Errors.Hints.{rated_len, is_rate, abbreviated_unit, meant_unit, hint_for, hint_of};
+ghost use Rattle.byte_unit_base.specs.Errors.Hints.{rated_len, is_rate, abbreviated_unit, before_word, meant_unit, hint_for, hint_of};
 
 use crate::Unit;
 use crate::read::unit::unit_with_prefix;
@@ -192,10 +192,26 @@ fn abbreviated_unit(word: &[u8]) -> Option<Unit>
     }
 }
 
-/// Returns the unit that the word at the end of a text means.
+/// Returns the text before the word at its end, and before a hyphen there.
+fn before_word(text: &[u8]) -> &[u8]
+    ensures { result.now ≡ before_word text.now }
+{
+    let front = &text[..word_start(text)];
+    if ends_in(front, b"-") {
+        &front[..front.len() - 1]
+    } else {
+        front
+    }
+}
+
+/// Returns the unit that the word at the end of a text means, if a size is before it.
 fn meant_unit(text: &[u8]) -> Option<Unit>
+    requires { IsAscii text.now }
     ensures { option_map shape_of result ≡ meant_unit text.now }
 {
+    if !is_size(before_word(text)) {
+        return None;
+    }
     let word = &text[word_start(text)..];
     match unit_of_word(word) {
         Some(unit) => Some(unit),

@@ -66,6 +66,7 @@ def hint(text):
     rate = RATE.fullmatch(text)
     if rate and is_size(rate[1] or rate[2] or "", read_words):
         return "a size has no rate: leave out what it is per second"
-    unit = meant_unit(parted(text)[1])
+    before, word = parted(text)
+    unit = meant_unit(word) if is_size(before.removesuffix("-"), read) else None
     words = ", or read it with the option 'words'" * is_size(text, read_words)
     return unit and f"write '{unit}'{words}"

@@ -75,11 +75,18 @@ abbreviated_unit word =
     && str_eq_ignore_ascii_case one (take (length one) name)
     then Some (shape power false false) else None)
 
--- the unit that the word at the end of the text means, whatever is before it
+-- the text before the word at its end, and before a hyphen there, as in `32-byte`
+abbrev pub before_word : List ℕ → List ℕ
+before_word text =
+    let front = take (word_start text) text in
+    if ends_in front (codes "-") then take (length front - 1) front else front
+
+-- the unit that the word at the end of the text means, if a size is before it
 abbrev pub meant_unit : List ℕ → Option Shape
 meant_unit text =
     let word = drop (word_start text) text in
-    elim (unit_of_word word) [ Some unit ↦ Some unit | None ↦ abbreviated_unit word ]
+    if is_size (before_word text)
+    then elim (unit_of_word word) [ Some unit ↦ Some unit | None ↦ abbreviated_unit word ] else None
 
 -- the hint for a text of ASCII; one that is in the grammar has none
 abbrev pub hint_for : List ℕ → Option Hint
