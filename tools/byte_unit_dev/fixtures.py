@@ -168,7 +168,7 @@ def counting_library(library, tmp_path_factory):
     need("gcc", "ar", "objcopy")
     bodies = {}
     for name, (_, given, is_inline) in functions(read(f"{library}/{HEADER}")).items():
-        if not is_inline and re.search("_parse|_explain|_position", name):
+        if not is_inline and re.search("_parse|_explain|_position|_hint", name):
             texts, passed = "codes_len" if "codes_len" in given else "1", re.findall(r"(\w+)(?:,|$)", given)
             count = f'for (size_t i = 0; i < {texts}; i++) fputs("a text is parsed\\n", stderr);'
             bodies[name] = f"{count}\nreturn real({', '.join(passed)});"
