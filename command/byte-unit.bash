@@ -24,8 +24,8 @@ _byte_unit() {
         ;;
     esac
     if [[ $cur == -* ]]; then
-        mapfile -t COMPREPLY < <(compgen -W '--bits --ignore-case --from= --to= --no-unit --suffix= --precision= --human-readable
-            --delimiter= --blanks --field= --header --padding= --invalid= --total --max= --min= --zero-terminated --help --version' -- "$cur")
+        mapfile -t COMPREPLY < <(compgen -W '--bits --ignore-case --from= --words --to= --no-unit --suffix= --precision= --human-readable
+            --delimiter= --blanks --field= --header --padding= --invalid= --total --max= --min= --no-hints --zero-terminated --help --version' -- "$cur")
         if [[ ${#COMPREPLY[@]} == 1 && ${COMPREPLY[0]} == *= ]]; then
             compopt -o nospace
         fi

@@ -9,8 +9,9 @@ import pytest
 from byte_unit_dev.fixtures import CARGO_PROGRAMS, CONFIG, compiled, copied, ended, environment, need, output, write
 from byte_unit_dev.needs import DEBIAN_RUST
 
-NAMES = ["bits", "ignore-case", "from", "to", "no-unit", "suffix", "precision", "human-readable", "delimiter", "blanks",
-         "field", "header", "padding", "invalid", "total", "max", "min", "zero-terminated", "help", "version"]  # fmt: skip
+NAMES = ["bits", "ignore-case", "from", "words", "to", "no-unit", "suffix", "precision", "human-readable", "delimiter",
+         "blanks", "field", "header", "padding", "invalid", "total", "max", "min", "no-hints", "zero-terminated",
+         "help", "version"]  # fmt: skip
 VALUES = ["", "1", "x", "-1", "exact", "KB", "1 KB", "\u00e9", "\n", "99999999999999999999"]
 
 

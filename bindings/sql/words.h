@@ -14,7 +14,8 @@ static uint32_t flag_of(const char *word, size_t len)
         uint32_t flag;
     } flags[] = { { "bits", BYTE_UNIT_BITS },
                   { "ignore-case", BYTE_UNIT_IGNORE_CASE },
-                  { "binary", BYTE_UNIT_BINARY_PREFIXES } };
+                  { "binary", BYTE_UNIT_BINARY_PREFIXES },
+                  { "words", BYTE_UNIT_WORDS } };
 
     for (size_t at = 0; at < sizeof flags / sizeof *flags; at++)
         if (strlen(flags[at].name) == len && memcmp(flags[at].name, word, len) == 0)

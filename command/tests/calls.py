@@ -4,13 +4,14 @@ import random
 from collections import namedtuple
 
 from byte_unit_dev.model.exact import SIZE_LIMIT, Rejected, some_line, some_unit
+from byte_unit_dev.model.words import PREFIXES
 from model import BITS_64, BY_LETTER, FORMS, OPTIONS, Wrong, options_of, read
 from program import Call
 
 # The greatest number of 16 bits, as of a precision or a width.
 BITS_16 = (1 << 16) - 1
 # The options by which a limit is read.
-READ_BY = ("bits", "ignore-case", "from")
+READ_BY = ("bits", "ignore-case", "words", "from")
 # Numbers at and beside limits: those of 8, 16, 32 and 64 bits, 28 digits of the form exact, and those at which a wrong
 # program of test_wrong.py does otherwise.
 PRECISIONS = [0, 1, 2, 3, 7, 8, 27, 28, 29, 92, 93, 94, 255, 256, 999, 1000, 1001, BITS_16]
@@ -29,6 +30,9 @@ ODD = [*"x/:@[`{'\"\\,-+_%\0\a\b\t\v\f\r\x1b\x1f\x7f\x80\x85\x9b\x9f\xa0\xad\xb5
        *"\U0001d7cf\U0001f600\U000e0001\U000e0100\U0010ffff"]
 # Characters at the 80 bytes after which a quoted text is cut, and bytes that are not UTF-8.
 CUT = ["a", "\x1b", "\x7f", "\x9b", "\xe9", "\u0301", "\u20ac", "\ufeff", "\U0001f600", "\U0001d7cf"]
+# Texts that have a hint, or almost.
+MEANT = ["5 bytes", "2 gigs", "2 gig s", "1 Mbps", "1 Mbps/s", "3 kibibits/s", "1/s", "1,5", "1_0", "1 0", "1'0 KB",
+         "1e3", "1E+3", "1 e3", "0x1F", "1^2", "5%", "-1", ".5", "5.", "1.2.3", "9 octet", "9 KOctets", "9 xoctets"]
 BROKEN = [b"\xff", b"\x80", b"\xc3", b"\xe2\x82", b"\xf0\x9f\x98", b"\xed\xa0\x80", b"\xc0\xaf", b"\xf4\x90\x80\x80"]
 
 
@@ -85,15 +89,24 @@ def some_fields(rng, texts):
     return ",".join(ranges)
 
 
+def some_name(rng, options):
+    """Returns a unit, or, where words are read or rarely else, a word for one."""
+    if not happens(rng, 50 if options.words else 3):
+        return some_unit(rng, SUFFIXES)
+    word = rng.choice(["", "k", "Mi", *PREFIXES]) + rng.choice(["byte", "bytes", "octets", "bit", "bits"])
+    return rng.choice([str.lower, str.upper, str.title])(word)
+
+
 def some_limit(rng, texts):
     """Returns a text that is a size under the other options."""
+    options = options_of({name: value for name, value in texts.items() if name in READ_BY})
     while True:
         if happens(rng, 50):
             text = f"{near(rng, LIMITS, SIZE_LIMIT - 1)}{rng.choice(['', 'b', 'B', 'bit'])}"
         else:
-            text = f"{rng.choice([1, 1, 0.125, 0.5, 1.5, 8, 12, 999])}{' ' * rng.randrange(2)}{some_unit(rng, SUFFIXES)}"
+            text = f"{rng.choice([1, 1, 0.125, 0.5, 1.5, 8, 12, 999])}{' ' * rng.randrange(2)}{some_name(rng, options)}"
         text = rng.choice(["", "", "", " "]) + text + rng.choice(["", "", "", "\t"])
-        size = read(text.encode(), options_of({name: value for name, value in texts.items() if name in READ_BY}))
+        size = read(text.encode(), options)
         if not isinstance(size, Rejected):
             return text
 
@@ -105,6 +118,7 @@ DRAWN = {
     "bits": Drawn(30),
     "ignore-case": Drawn(43, without="bits"),
     "human-readable": Drawn(15),
+    "words": Drawn(25),
     "from": Drawn(40, lambda rng, texts: rng.choice(["auto", "si", "iec", "iec", "iec", "iec-i"]), ("", "IEC", "iec")),
     "to": Drawn(70, some_to, ("", " ", "K", "mi", "kb", "bi", "BIT", "bits")),
     "no-unit": Drawn(15, needs="to"),
@@ -123,6 +137,7 @@ DRAWN = {
     "total": Drawn(25),
     "max": Drawn(20, some_limit, ("", "1", "1.5 ", "9" * 31, "1 kbi", "1 K")),
     "min": Drawn(20, some_limit, ("", "1", "1.", "9" * 40, "1 bits")),
+    "no-hints": Drawn(15),
     "zero-terminated": Drawn(25),
 }
 
@@ -196,7 +211,7 @@ def odd_field(rng):
     """Returns a field that is rarely a size: with an odd character, too long to quote, not UTF-8, or a random line."""
     make = rng.randrange(10)
     if make < 4:
-        return some_line(rng)
+        return some_line(rng) if happens(rng, 70) else rng.choice(MEANT).encode()
     if make < 7:
         starts = ["", "1", "1.", "1.5", "1 ", "1K", "1 Mi", "1 b", "1 kbi", "1 bit", "1 bits", "1 Gib", "1\t", "\ufeff"]
         return (rng.choice(starts) + rng.choice(ODD) + rng.choice(["", "", "B", " "])).encode()
@@ -216,7 +231,7 @@ def good_field(rng, options):
         return (" " * rng.choice([0, 1, 40, 90]) + "0" * rng.choice([0, 1, 70, 300]) + "1.5 KB").encode()
     number = str(rng.randrange(10 ** rng.choice([1, 3, 5, 9]))) + rng.choice(["", ".5", ".25", ".125"])
     suffix = options.suffix * (happens(rng, 90) if options.suffix else 0)
-    return (number + " " * rng.randrange(2) + some_unit(rng, SUFFIXES) + suffix).encode()
+    return (number + " " * rng.randrange(2) + some_name(rng, options) + suffix).encode()
 
 
 def some_records(rng, options, number, odd):

@@ -15,6 +15,8 @@ from types import SimpleNamespace
 from byte_unit_dev.model.answers import located
 from byte_unit_dev.model.exact import (BASE, FORM_PLACES, SIZE_LIMIT, UNITS, WHITE_SPACE, Rejected, bad_unit, best_unit,
                                        largest, size_of, unit_of, value_of)
+from byte_unit_dev.model.exact import read as number_and_unit
+from byte_unit_dev.model.words import read_words, told_hint
 from program import Result
 
 # The most bytes of a text that a message quotes, and Unicode's categories of the characters that it escapes; the
@@ -88,7 +90,8 @@ def is_binary(options):
 
 def read(data, options):
     """Returns the size that bytes represent under the options, or why they represent none."""
-    return size_of(data, options.kind, options.ignore_case, binary=is_binary(options))
+    reader = read_words if options.words else number_and_unit
+    return size_of(data, options.kind, options.ignore_case, is_binary(options), reader)
 
 
 def why_not(data, size):
@@ -125,6 +128,7 @@ OPTIONS = {
     "bits": Option(),
     "ignore-case": Option("i"),
     "human-readable": Option("H"),
+    "words": Option(),
     "from": Option("", "auto", lambda text, options: checked(
         text, text in ("auto", "si", "iec", "iec-i"), "not auto, si, iec or iec-i"), None),
     "to": Option("", lambda options: "iec" if options.human_readable else "exact", form, None),
@@ -148,6 +152,7 @@ OPTIONS = {
     "total": Option(),
     "max": Option("", None, limit, None),
     "min": Option("", None, limit, None),
+    "no-hints": Option(),
     "zero-terminated": Option("z"),
 }
 BY_LETTER = {option.letter: name for name, option in OPTIONS.items() if option.letter}
@@ -219,7 +224,8 @@ class Run:
         size = read(text, options)
         if isinstance(size, Rejected):
             if options.invalid != "ignore":
-                self.tell(f"{named}: {why_not(text, size)}", 0 if options.invalid == "warn" else 2)
+                hint = "" if options.no_hints else told_hint(text)
+                self.tell(f"{named}: {why_not(text, size)}{hint}", 0 if options.invalid == "warn" else 2)
             if options.invalid == "abort":
                 raise Aborted
             return data

@@ -12,13 +12,18 @@ NEEDS = "needs -d or --blanks, by which fields are separated"
 TOTAL = "byte-unit: the total is 10^30 or more\n"
 SPLIT = "byte-unit: a number and its unit were two operands; quote them as one, as in '5 KB'\n"
 END = "at the end of the text"
+NUMBER, NEGATIVE = "a size begins with a number as in '12' or '1.5'", "a size is not negative"
+GROUPED, RATE = "digits are not grouped, and the point is '.'", "a size has no rate: leave out what it is per second"
 GREATEST = b"999999999999999999999999999999"
 
 
-def told(place, why, at=0):
-    """Returns a message on a field or an option; with the number of the first wrong character, or `END`, if given."""
+def told(place, why, at=0, hint=None):
+    """Returns a message on a field or an option; with the number of the first wrong character, or `END`, if given. That
+    on a field has a hint: this one, or else, if it has no number where one is expected, what a number is."""
     where = at if at == END else f"character {at}"
-    return f"byte-unit: {place}: {why}{f' ({where})' * bool(at)}\n"
+    if hint is None:
+        hint = NUMBER if place[:2] != "--" and (why == BLANK or why.endswith("is not a number")) else ""
+    return f"byte-unit: {place}: {why}{f' ({where})' * bool(at)}{f'; hint: {hint}' * bool(hint)}\n"
 
 
 def unit(c, expected=START):
@@ -46,9 +51,11 @@ def unknown(word):
     return misused(f"unexpected argument '{word}' found", f"  tip: to pass '{word}' as a value, use '-- {word}'")
 
 
-def field(text, quoted, why, at=0):
-    """Returns the arguments of `row` for a field that is not a size: it is copied, and its message has `quoted`."""
-    return "--invalid=warn", text + b"\n", text + b"\n", 0, told(f"line 1: '{quoted}'", why, at)
+def field(text, quoted, why, at=0, hint=None):
+    """Returns the arguments of `row` for a field that is not a size: it is copied, and its message has `quoted`. There
+    is no hint for a text with characters that are not ASCII, but white space at its ends."""
+    hint = hint if text.decode(errors="replace").strip().isascii() else ""
+    return "--invalid=warn", text + b"\n", text + b"\n", 0, told(f"line 1: '{quoted}'", why, at, hint)
 
 
 # What ls, df, ps and free print.
@@ -84,7 +91,7 @@ SIZES = [
     ("-z", b"1 KB\x00100 MB\x00", b"1 KB\x00100 MB\x00"),
     ("-z", b"1 KB\x002 x", b"1 KB\0", 2, told("record 2: '2 x'", unit("x"), 3)),
     ("-- 1KB", b"", b"1 KB\n"),
-    ("-- -1KB", b"", b"", 2, told("operand 1: '-1KB'", digit("-"), 1)),
+    ("-- -1KB", b"", b"", 2, told("operand 1: '-1KB'", digit("-"), 1, NEGATIVE)),
     ([""], b"", b"", 2, told("operand 1: ''", BLANK, END)),
     (["1KB", "1KB\n2KB", "x"], b"", b"1 KB\n", 2,
      told("operand 2: '1KB\\u{a}2KB'", unit("\\n", "('i' or no character is expected)"), 4)),
@@ -185,7 +192,32 @@ PREFIXES = [
     ("--from=iec --total --padding=9 --suffix=/s 1000 1K", b"", b"   1000/s\n  1 KiB/s\n   2024/s\n"),
     ("--from=iec --to=KB 1000", b"", b"1 KB\n"), ("--from=iec --to=si 1000", b"", b"1 KB\n"),
     ("--from=iec --invalid=warn 900RB 1x", b"", b"900RB\n1x\n", 0,
-     told("operand 1: '900RB'", "the value 900 exceeds the valid range") + told("operand 2: '1x'", unit("x"), 2)),
+     told("operand 1: '900RB'", "the value 900 exceeds the valid range")
+     + told("operand 2: '1x'", unit("x"), 2, NUMBER)),
+]
+
+# What pg_size_pretty of PostgreSQL prints, and other words.
+WORDS = [
+    ("--from=iec --words", b"8192 bytes\n10 kB\n20 MB\n", b"8 KiB\n10 KiB\n20 MiB\n"),
+    ("-d, --field=2 --header --from=iec --words --to=plain --total", b"name,size\na,5 bytes\nb,64 kB\nc,10 GB\n",
+     b"name,size\na,5\nb,65536\nc,10737418240\n10737483781\n"),
+    ("--words --bits --to=plain", b"2 octets\n3 Bits\n1 KIBIBYTE\n1.5 Kbyte\n", b"16\n3\n8192\n12000\n"),
+    ("--from=iec --words --to=plain 10MegaBytes 8kilobits", b"", b"10485760\n1024\n"),
+    (["--max", "5 kilobytes", "--words"], b"5000\n5001 bytes\n", b"5 KB\n5.001 KB\n", 3,
+     told("line 2: '5001 bytes'", "above the maximum")),
+    (["--words", "--suffix=/s", "5 bytes/s"], b"", b"5 B/s\n"),
+    (["--words", "5 byte s"], b"", b"", 2,
+     told("operand 1: '5 byte s'", unit("y", "('i' or no character is expected)"), 4)),
+    (["--invalid=warn", "5 bytes", "1 Mbps", "1,024", "2 gigs", "3 kibibit/s"], b"",
+     b"5 bytes\n1 Mbps\n1,024\n2 gigs\n3 kibibit/s\n", 0,
+     told("operand 1: '5 bytes'", unit("y", "('i' or no character is expected)"), 4,
+          "write 'B', or read it with the option 'words'")
+     + told("operand 2: '1 Mbps'", unit("p", "('i' or no character is expected)"), 5, RATE)
+     + told("operand 3: '1,024'", unit(","), 2, GROUPED)
+     + told("operand 4: '2 gigs'", unit("g", "('B' or 'b' or no character is expected)"), 5, "write 'GB'")
+     + told("operand 5: '3 kibibit/s'", unit("b", "('t' is expected)"), 7, RATE)),
+    ("--no-hints --invalid=warn x -- -1", b"", b"x\n-1\n", 0,
+     told("operand 1: 'x'", digit("x"), 1, "") + told("operand 2: '-1'", digit("-"), 1, "")),
 ]
 
 REPEATED = [
@@ -203,16 +235,16 @@ SUFFIXES = [
     ("--suffix=ps --padding=-9 --to=Mb -p0 5Mbps", b"", b"5 Mbps   \n"),
     ("--suffix=/s --max=1K 2K/s", b"", b"2 KB/s\n", 3, told("operand 1: '2K/s'", "above the maximum")),
     ("--suffix=/s --invalid=warn /s 1x/s 1/s/s", b"", b"/s\n1x/s\n1/s/s\n", 0, told("operand 1: '/s'", BLANK, END)
-     + told("operand 2: '1x/s'", unit("x"), 2) + told("operand 3: '1/s/s'", unit("/"), 2)),
+     + told("operand 2: '1x/s'", unit("x"), 2, NUMBER) + told("operand 3: '1/s/s'", unit("/"), 2, RATE)),
     ("--suffix=/s --invalid=warn 1K/S", b"", b"1K/S\n", 0,
-     told("operand 1: '1K/S'", unit("/", "('B' or 'b' or no character is expected)"), 3)),
+     told("operand 1: '1K/S'", unit("/", "('B' or 'b' or no character is expected)"), 3, RATE)),
     ("-i --suffix=/s --invalid=warn 1k/S", b"", b"1k/S\n", 0,
-     told("operand 1: '1k/S'", unit("/", "('B' or no character is expected)"), 3)),
+     told("operand 1: '1k/S'", unit("/", "('B' or no character is expected)"), 3, RATE)),
     ("--suffix=/s", b"1 KB/s\r\n2 KB/s \t\n3 KB\r\n", b"1 KB/s\n2 KB/s\n3 KB/s\n"),
     ("--suffix=/s -d, --field=2", b"a,1 KB/s\r\n", b"a,1 KB/s\n"),
     (["--suffix=/s", "1 KB/s\u3000", "1 KB/s\u00a0"], b"", b"1 KB/s\n1 KB/s\n"),
     (["--suffix=/s ", "1 KB/s ", "2 KB/s  "], b"", b"1 KB/s \n", 2,
-     told("operand 2: '2 KB/s  '", unit("/", "('i' or no character is expected)"), 5)),
+     told("operand 2: '2 KB/s  '", unit("/", "('i' or no character is expected)"), 5, RATE)),
     ("--suffix=/s --invalid=warn", b"1 x/s\r\n\xff/s\r\n", b"1 x/s\r\n\xff/s\r\n", 0,
      told("line 1: '1 x/s\\u{d}'", unit("x"), 3) + told("line 2: '\\xff/s\\x0d'", "not UTF-8")),
     ("--suffix=-x 1K-x", b"", b"1 KB-x\n"), ("--suffix -x 1K", b"", b"1 KB-x\n"), ("--suffix= 1K", b"", b"1 KB\n"),
@@ -252,7 +284,7 @@ QUOTED = [
     field("\u3000 1 Ké".encode(), "\\u{3000} 1 Ké", unit("é", "('B' or 'b' or no character is expected)"), 6),
     field(b" 1. ", " 1. ", digit("."), END), field(b"1 bi", "1 bi", unit("i", "(no character is expected)"), END),
     field("\u3000\u00a0".encode(), "\\u{3000}\\u{a0}", BLANK, END),
-    *(field(text, text.decode(), "value number is too long", at)
+    *(field(text, text.decode(), "value number is too long", at, NUMBER * text.endswith(b"x"))
       for text, at in ((b" 5192296858534827628530496329220096x", 35), (b"00" + b"1" * 40, 37), (b"1." + b"0" * 29, 31))),
     field(b"1.x", "1.x", digit("x"), 3), field(b"1 Kbitz", "1 Kbitz", unit("z", "('s' or no character is expected)"), 7),
     field(b"x\xff\x1b ~", "x\\xff\\x1b ~", "not UTF-8"),
@@ -294,6 +326,7 @@ WRONG_VALUES = [
     (["--to=z q"],
      told("--to: 'z q'", "not a form or a unit: " + unit(" ", "('B' or 'b' or no character is expected)"))),
     ("--max=x", told("--max: 'x'", digit("x"), 1)),
+    (["--max=5 bytes"], told("--max: '5 bytes'", unit("y", "('i' or no character is expected)"), 4)),
     ("--max=", told("--max: ''", BLANK, END)),
     ("--max=1.", told("--max: '1.'", digit("."), END)),
     (["--max=1,5 GB"], told("--max: '1,5 GB'", unit(","), 2)),
@@ -325,8 +358,9 @@ WRONG_WORDS = [
     (["-p", "\x1b"], wrong("invalid value '\\u{1b}' for '--precision <N>': invalid digit found in string")),
     ("-p -1", unknown("-1")),
     ("--bits -i", misused("the argument '--bits' cannot be used with '--ignore-case'")),
-    ("--nothing", unknown("--nothing")),
-    ("--unit", unknown("--unit")),
+    ("--quux", unknown("--quux")),
+    *((word, misused(f"unexpected argument '{word}' found", "  tip: a similar argument exists: '--no-hints'"))
+      for word in ("--nothing", "--unit")),
     ("--he", misused("unexpected argument '--he' found", "  tip: a similar argument exists: '--help'")),
     (["--x\nbyte-unit: y"], unknown("--x\\u{a}byte-unit: y")),
     (["--x\u202e"], unknown("--x\\u{202e}")),
@@ -347,7 +381,8 @@ def row(words, data=b"", written=b"", status=0, messages=""):
 
 # Each call with its result: those that the model has too, and the others.
 MODELLED = [row(*each) for each in [
-    *SIZES, *HEADERS_AND_TOTALS, *LIMITS, *FORMS, *PREFIXES, *REPEATED, *SUFFIXES, *FIELDS, *BETWEEN_BLANKS, *QUOTED]]
+    *SIZES, *HEADERS_AND_TOTALS, *LIMITS, *FORMS, *PREFIXES, *WORDS, *REPEATED, *SUFFIXES, *FIELDS, *BETWEEN_BLANKS,
+    *QUOTED]]
 MODELLED += [row(words, b"", b"", 2, message) for words, message in WRONG_VALUES + TWO_WRONG]
 OTHERS = [row(words, b"", b"", 2, message) for words, message in WRONG_WORDS]
 LINES = b"1.5 KB\n" * 15_000

@@ -17,7 +17,8 @@ LINES = b"1.5 KiB\n" * 1_000_000
 READ_FAILED = b"byte-unit: read failed\n"
 WRITE_FAILED = b"byte-unit: write failed\n"
 TERMINAL = b"byte-unit: reading sizes from the terminal, one a line; end with Ctrl-D\n"
-NO_NUMBER = b"byte-unit: line 2: 'x': the character 'x' is not a number (character 1)\n"
+NO_NUMBER = (b"byte-unit: line 2: 'x': the character 'x' is not a number (character 1); hint: a size begins with a"
+             b" number as in '12' or '1.5'\n")  # fmt: skip
 TOO_LARGE = b"byte-unit: the total is 10^30 or more\n"
 
 
@@ -91,7 +92,7 @@ def test_standard_error_that_fails_once(start):
     (["--total"], b"900RB\n100RB\n", None, b"900 RB\n100 RB\n" + TOO_LARGE),
     (["--total"], b"900RB\n100RB", None, b"900 RB\n100 RB\n" + TOO_LARGE),
     (["--invalid=warn"], b"1 KB\nx\n3 KB\nx\n5 KB\n", [7, 14],
-     b"1 KB\nx\n" + NO_NUMBER + b"3 KB\nx\n" + NO_NUMBER.replace(b"2", b"4") + b"5 KB\n")])
+     b"1 KB\nx\n" + NO_NUMBER + b"3 KB\nx\n" + NO_NUMBER.replace(b"line 2", b"line 4") + b"5 KB\n")])
 def test_message_follows_the_lines_before_it(program, words, data, cuts, wanted):
     """Standard output and standard error are one stream; the lines may be of an earlier read."""
     assert run(program, Call(words, data, cuts), joined=True).written == wanted

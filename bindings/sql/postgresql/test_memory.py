@@ -115,10 +115,10 @@ def test_allocations_that_fail(checked):
     assert got.count("answered") > 40 and got.count("failed") > 200
 
 
-# Calls, and the number of texts that each parses: what is rejected is parsed once more, for the message.
+# Calls, and the number of texts that each parses: what is rejected is parsed twice more, for DETAIL and HINT.
 PARSED = {
-    "'1 KB'::bytesize": 1, "'1 x'::bytesize": 2, "size_parse('1 KB')": 1, "size_parse('1 x')": 2,
-    "size_parse('1 K', 'binary')": 1, "size_parse('1 x', 'binary')": 2, "size_try('1 x')": 1, "size_explain('1 KB')": 1,
+    "'1 KB'::bytesize": 1, "'1 x'::bytesize": 3, "size_parse('1 KB')": 1, "size_parse('1 x')": 3,
+    "size_parse('1 K', 'binary')": 1, "size_parse('1 x', 'binary')": 3, "size_try('1 x')": 1, "size_explain('1 KB')": 1,
     "size_explain('1 x')": 1, "size_in(1::bytesize, 'KiB')": 1, "size_in(1::bytesize, 'k')": 1,
     "size_in(1::bytesize, 'b')": 1, "size_in(1::bytesize, ' B')": 1, "size_in(1::bytesize, 'b', 'ignore-case')": 1,
     "size_in(1::bytesize, ' ')": 1, "size_in(1::bytesize, 'x')": 2, "size_text(1536::bytesize)": 0,

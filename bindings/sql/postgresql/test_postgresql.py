@@ -5,6 +5,7 @@ import re
 import pytest
 from byte_unit_dev.fixtures import call, need, output, read, write
 from byte_unit_dev.model.exact import Rejected, form, size_of, some_line
+from byte_unit_dev.model.words import told_hint
 from byte_unit_dev.needs import DEBIAN_PYTHON
 from byte_unit_dev.pages import beside
 from byte_unit_dev.pages.beside import Program
@@ -44,7 +45,7 @@ def test_words_that_are_flags(server):
     """A flag may be given twice. A word that is cut short, or differs from a flag by one character, is not one."""
     rows = [(f"size_parse('1 Kb', '{words}')::numeric", answer) for words, answer in (
         ("ignore-case ignore-case", "1000"), ("ignore-case  binary ignore-case", "1024"), ("binary binary", "128"))]
-    for flag in ("ignore-case", "binary"):
+    for flag in ("ignore-case", "binary", "words"):
         words = [flag[:at] + "x" + flag[at + 1 :] for at in range(len(flag))] + [flag[:-1], flag[1:], flag + "s"]
         words += [flag + space + "binary" for space in "\t\n\r\v\f\xa0,"] + [flag.upper()]
         rows += [(f"size_parse('1', {quoted(word)})", "22023 .*") for word in words]
@@ -61,8 +62,9 @@ def test_lines(server, check_drawn):
             return expression, re.escape(f"{size}|{form(size, 'byte')}")
         # The SQLSTATE of a number out of range, or that of an invalid text.
         state = "22003" if size.name == "out of range" else "22P02"
-        reason = size.message[0].upper() + size.message[1:]
-        return expression, rf'{state} invalid input syntax for type bytesize: ".*": {re.escape(reason)}( \(.*\))?\.'
+        reason = re.escape(size.message[0].upper() + size.message[1:])
+        hint = re.escape(told_hint(line).replace("; hint:", " Hint:"))
+        return expression, rf'{state} invalid input syntax for type bytesize: ".*": {reason}( \(.*\))?\.{hint}'
 
     def wrong(lines):
         usable = [line for line in lines if b"\0" not in line and b"\n" not in line
@@ -156,6 +158,25 @@ def test_random_pairs_beside_numeric(server):
     assert got == ["", "0", "0", "t", "t|t|t|t", "t"]
 
 
+def test_texts_of_pg_size_pretty(server):
+    """Reads what the server prints for 100,000 numbers of all magnitudes, and beside those at which its unit changes:
+    exactly the number if that is `bytes`, and else within half of the unit."""
+    got = server.sql(
+        "SELECT setseed(0.5);",
+        "CREATE TEMP TABLE printed AS SELECT n, pg_size_pretty(n) AS t, substring(pg_size_pretty(n) from '[A-Za-z]+')"
+        " AS unit FROM (SELECT (floor(random() * 4294967296)::bigint << 31 | floor(random() * 2147483648)::bigint)"
+        " >> floor(random() * 63)::int AS n FROM generate_series(1, 100000) UNION ALL"
+        " SELECT least(trunc(many * 1024::numeric ^ power) + beside, 9223372036854775807)::bigint FROM"
+        " generate_series(0, 5) AS power, unnest(ARRAY[2, 1024, 10239.5, 10240]) AS many,"
+        " generate_series(-2, 2) AS beside) AS drawn;",
+        "SELECT count(*), count(DISTINCT unit), min(n), max(n) FROM printed;",
+        "SELECT n, t FROM (SELECT *, size_parse(t, 'words binary')::numeric AS size, size_parse('1' || unit,"
+        " 'words binary')::numeric AS one FROM printed) AS parsed WHERE 2 * abs(size - n) > one - (unit = 'bytes')::int"
+        " LIMIT 5;",
+    )  # fmt: skip
+    assert got == ["", "100120|6|0|9223372036854775807"]
+
+
 def test_dump_copy_and_logical_decoding(server):
     values = ["0", "1.5 KiB", "9007199254740993", "999999999999999999999999999999", "123456789"]
     make = "CREATE TABLE kept(size bytesize); INSERT INTO kept VALUES " + ", ".join(f"('{value}')" for value in values)
@@ -230,7 +251,7 @@ def test_texts_without_utf8(server, encoding, data):
     answers = {"size_parse(size)": invalid, "size::bytesize": invalid, "size_explain(size)": "the text is not UTF-8",
                "coalesce(size_try(size), '7 B')": "7 B",
                "size_in(0::bytesize, size)": f'22023 "{shown}" is not a unit: The text is not UTF-8.',
-               "size_try('0', size)": f'22023 "{shown}" has flags other than ignore-case and binary: ',
+               "size_try('0', size)": f'22023 "{shown}" has flags other than ignore-case, binary and words: ',
                "size_pretty('0', size)": f'22023 "{shown}" is not a unit type: binary, decimal or both is expected: ',
                }  # fmt: skip
     got = in_encoding(server, encoding, data, *[f"SELECT tried($$SELECT {call} FROM texts$$);" for call in answers],

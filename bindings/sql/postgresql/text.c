@@ -24,6 +24,16 @@ static int sqlstate_of(uint32 code)
     return code == BYTE_UNIT_EXCEEDED_BOUNDS ? ERRCODE_NUMERIC_VALUE_OUT_OF_RANGE : ERRCODE_INVALID_TEXT_REPRESENTATION;
 }
 
+/* Adds a hint to the error of a text that is rejected with this code: how the size that was meant is written. The text
+ * of a size that is too large has none. */
+static int add_hint(Text text, uint32 code)
+{
+    char hint[BYTE_UNIT_HINT_SIZE];
+    size_t len = code == BYTE_UNIT_EXCEEDED_BOUNDS ? 0 : byte_unit_hint(text.at, text.len, hint, sizeof hint);
+
+    return len == 0 ? 0 : errhint("%.*s", (int)len, hint);
+}
+
 /* Returns the size of a text, or an error of which `soft`, the context of the call, may take account. */
 static Datum parsed(Text text, uint32 flags, fmNodePtr soft)
 {
@@ -36,7 +46,7 @@ static Datum parsed(Text text, uint32 flags, fmNodePtr soft)
     ereturn(soft, (Datum)0,
             (errcode(sqlstate_of(code)),
              errmsg("invalid input syntax for type %s: \"%s\"", "bytesize", quoted(text, code)),
-             errdetail("%s", sentence_of(reason_of(byte_unit_explain, text, flags)))));
+             errdetail("%s", sentence_of(reason_of(byte_unit_explain, text, flags))), add_hint(text, code)));
 }
 
 /* ---- Input and output. ---- */
@@ -128,12 +138,12 @@ static uint32 flags_argument(FunctionCallInfo fcinfo, int n, uint32 allowed)
     if (!add_flags(VARDATA_ANY(words), VARSIZE_ANY_EXHDR(words), allowed, &flags))
         ereport(ERROR, (errcode(ERRCODE_INVALID_PARAMETER_VALUE),
                         errmsg("\"%s\" has flags other than %s", quoted_argument(fcinfo, n),
-                               allowed & BYTE_UNIT_BINARY_PREFIXES ? "ignore-case and binary" : "ignore-case")));
+                               allowed & BYTE_UNIT_WORDS ? "ignore-case, binary and words" : "ignore-case")));
     return flags;
 }
 
 /* The flags of the functions that parse a size. */
-static const uint32 READING = BYTE_UNIT_IGNORE_CASE | BYTE_UNIT_BINARY_PREFIXES;
+static const uint32 READING = BYTE_UNIT_IGNORE_CASE | BYTE_UNIT_BINARY_PREFIXES | BYTE_UNIT_WORDS;
 
 SQL_FUNCTION(size_parse)
 {

@@ -12,7 +12,7 @@ SQLITE_EXTENSION_INIT3
 /* The flags of the functions that take a unit, and of those that parse a size. */
 enum {
     UNIT_FLAGS = BYTE_UNIT_BITS | BYTE_UNIT_IGNORE_CASE,
-    SIZE_FLAGS = UNIT_FLAGS | BYTE_UNIT_BINARY_PREFIXES
+    SIZE_FLAGS = UNIT_FLAGS | BYTE_UNIT_BINARY_PREFIXES | BYTE_UNIT_WORDS
 };
 
 /* A text of `len` bytes, which may have zero bytes inside. */
@@ -113,14 +113,27 @@ static void append_reason(sqlite3_str *out, explain_call *call, struct text text
     sqlite3_str_append(out, reason, (int)call(text.at, text.len, flags, reason, sizeof reason));
 }
 
-/* Returns the error of a text that the library rejects: the text, what it is not, and the reason. */
-static void reject_text(sqlite3_context *context, explain_call *call, struct text text, uint32_t flags)
+/* Appends how the size is written that a text was meant to be, if there is a hint. */
+static void append_hint(sqlite3_str *out, struct text text)
+{
+    char hint[BYTE_UNIT_HINT_SIZE];
+    size_t len = byte_unit_hint(text.at, text.len, hint, sizeof hint);
+
+    if (len > 0)
+        sqlite3_str_appendf(out, "; hint: %.*s", (int)len, hint);
+}
+
+/* Returns the error of a text that the library rejects with this code: the text, what it is not, the reason, and a hint
+ * unless it is the text of a size that is too large. */
+static void reject_text(sqlite3_context *context, explain_call *call, struct text text, uint32_t flags, uint32_t code)
 {
     sqlite3_str *message = sqlite3_str_new(sqlite3_context_db_handle(context));
 
     append_quoted(message, text);
     sqlite3_str_appendf(message, " is not a %s: ", call == byte_unit_explain ? "size" : "unit");
     append_reason(message, call, text, flags);
+    if (call == byte_unit_explain && code != BYTE_UNIT_EXCEEDED_BOUNDS)
+        append_hint(message, text);
     return_message(context, message, true);
 }
 
@@ -156,9 +169,10 @@ static bool get_flags(sqlite3_context *context, sqlite3_value *value, uint32_t a
         return false;
     if (add_flags(words.at, words.len, allowed, flags))
         return true;
-    return reject(context, value, allowed == SIZE_FLAGS   ? " has flags other than 'bits', 'ignore-case' and 'binary'"
-                                  : allowed == UNIT_FLAGS ? " has flags other than 'bits' and 'ignore-case'"
-                                                          : " has flags other than 'bits'");
+    return reject(context, value,
+                  allowed == SIZE_FLAGS   ? " has flags other than 'bits', 'ignore-case', 'binary' and 'words'"
+                  : allowed == UNIT_FLAGS ? " has flags other than 'bits' and 'ignore-case'"
+                                          : " has flags other than 'bits'");
 }
 
 static bool is_digits(struct text text)
@@ -188,7 +202,7 @@ static bool get_size(sqlite3_context *context, sqlite3_value *value, byte_unit_n
         return reject(context, value, " is not an INTEGER such as size_parse returns");
     code = parse(digits, 0, size);
     if (code != BYTE_UNIT_OK)
-        reject_text(context, byte_unit_explain, digits, 0);
+        reject_text(context, byte_unit_explain, digits, 0, code);
     return code == BYTE_UNIT_OK;
 }
 
@@ -202,7 +216,7 @@ static bool get_unit(sqlite3_context *context, sqlite3_value *value, uint32_t fl
         return false;
     code = byte_unit_parse_unit(name.at, name.len, flags, unit, NULL);
     if (code != BYTE_UNIT_OK)
-        reject_text(context, byte_unit_explain_unit, name, flags);
+        reject_text(context, byte_unit_explain_unit, name, flags, code);
     else if (is_blank(name.at, name.len, *unit))
         return reject(context, value, " is not a unit such as 'KiB' or 'MB'");
     return code == BYTE_UNIT_OK;

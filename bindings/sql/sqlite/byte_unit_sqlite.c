@@ -10,7 +10,7 @@
  *     COLLATE SIZE                                orders texts by the sizes that they represent
  *
  * Flags are words in a text, separated by spaces: 'bits' for bits in place of bytes, 'ignore-case' for `b` as bytes,
- * 'binary' for `K` and `KB` as 1024.
+ * 'binary' for `K` and `KB` as 1024, 'words' for words such as `bytes`.
  * README.md says more, and Makefile builds it.
  */
 #include <sqlite3ext.h>
@@ -70,7 +70,7 @@ static bool get_reading(sqlite3_context *context, int argc, sqlite3_value **argv
     if (reading->text.at == NULL)
         reject_type(context, argv[0], true);
     else if (reading->code != BYTE_UNIT_OK)
-        reject_text(context, byte_unit_explain, reading->text, reading->flags);
+        reject_text(context, byte_unit_explain, reading->text, reading->flags, reading->code);
     return reading->code == BYTE_UNIT_OK;
 }
 

@@ -10,6 +10,7 @@ import pytest
 from byte_unit_dev.fixtures import call, compiled, copied, environment, need, output, parsed, path, read
 from byte_unit_dev.model.answers import located
 from byte_unit_dev.model.exact import SIZE_LIMIT, UNITS, Rejected, form, size_of, some_line, value_of
+from byte_unit_dev.model.words import told_hint
 
 WARNINGS = ["-Wall", "-Wextra", "-Wpedantic", "-Wconversion", "-Wshadow", "-Werror"]
 SANITIZED = ["-g", "-fsanitize=address,undefined", "-fno-sanitize-recover=all"]
@@ -135,7 +136,7 @@ def test_lines(sql, check_drawn, kind, flags):
     def row(line):
         size = size_of(line, kind)
         if isinstance(size, Rejected):
-            shown = rf"error: '.*' is not a size: {re.escape(located(line, size))}"
+            shown = rf"error: '.*' is not a size: {re.escape(located(line, size) + told_hint(line))}"
         elif size <= GREATEST:
             shown = re.escape(f"{size}|{form(size, kind)}|1")
         else:
@@ -155,16 +156,19 @@ RIGHT = {"text": "'1'", "number": "1", "unit": "'B'", "flags": "''", "precision"
 # result is NULL (0), or there is an error of REASONS.
 VALUES = {
     "NULL": ("NULL", "000FPT"), "0": ("0", "++UF+T"), "1": ("1", "++UF+T"), str(GREATEST): (str(GREATEST), "++UFPT"),
-    f"-{GREATEST} - 1": (f"-{GREATEST + 1}", "BMUFPT"), "1.5": ("the REAL value 1.5", "ANUFPT"),
+    f"-{GREATEST} - 1": (f"-{GREATEST + 1}", "GMUFPT"), "1.5": ("the REAL value 1.5", "ANUFPT"),
     "1e999": ("the REAL value Inf", "ANUFPT"), "''": ("''", "CNU+PT"), "'x'": ("'x'", "BNXOPT"),
     "'1'": ("'1'", "++XOPT"), "x''": ("a BLOB of length 0", "ANUFPT"), "x'31'": ("a BLOB of length 1", "ANUFPT"),
     "zeroblob(2)": ("a BLOB of length 2", "ANUFPT"),
 }  # fmt: skip
+NUMBER = "; hint: a size begins with a number as in '12' or '1.5'"
 REASONS = {
     "A": "is not a size: TEXT or an INTEGER is expected",
-    "B": r"is not a size: the character '.' is not a number \(character 1\)",
-    "C": r"is not a size: no value can be found \(at the end of the text\)", "M": "is not a size: it is negative",
-    "N": "is not an INTEGER such as size_parse returns", "U": "is not a unit such as 'KiB' or 'MB'",
+    "B": rf"is not a size: the character '.' is not a number \(character 1\){NUMBER}",
+    "G": r"is not a size: the character '-' is not a number \(character 1\); hint: a size is not negative",
+    "C": rf"is not a size: no value can be found \(at the end of the text\){NUMBER}",
+    "M": "is not a size: it is negative", "N": "is not an INTEGER such as size_parse returns",
+    "U": "is not a unit such as 'KiB' or 'MB'",
     "X": "is not a unit: the character '.' is incorrect .*", "F": "is not a text of flags",
     "O": "has flags other than 'bits'.*", "P": "is not a precision: an INTEGER from 0 to 65535 is expected",
     "T": "is not a type of units: 'binary', 'decimal' or 'both' is expected",
@@ -180,7 +184,7 @@ def answer_of(function, kind, value):
             return "NULL"
         error = f"'?{re.escape(shown)}'? {REASONS[found]}"
         if kind == "text" and function == "size_explain":
-            return error if found == "A" else REASONS[found].removeprefix("is not a size: ")
+            return error if found == "A" else REASONS[found].removeprefix("is not a size: ").partition("; hint")[0]
         return f"error: {error}"
     if found == "0" or function == "size_explain":
         return "NULL"
@@ -213,7 +217,7 @@ def test_words_that_are_flags(sql):
     """A flag may be given twice. A word that is cut short, or differs from a flag by one character, is not one."""
     rows = [(f"SELECT size_parse('8 Kb', '{words}');", [size]) for words, size in (
         ("bits bits", "8000"), ("ignore-case  ignore-case ", "8000"), ("binary bits binary", "8192"))]  # fmt: skip
-    for flag in ("bits", "ignore-case", "binary"):
+    for flag in ("bits", "ignore-case", "binary", "words"):
         words = [flag[:at] + "x" + flag[at + 1 :] for at in range(len(flag))] + [flag[:-1], flag[1:], flag + "s"]
         words += [flag + space + "bits" for space in "\t\n\r\v\f\xa0,"] + [flag.upper()]
         rows += [(f"SELECT size_parse('1', {quoted(word.encode())});", ["error: '.*' has flags other than .*"])
@@ -286,11 +290,11 @@ def test_statements(sql, name):
     assert rows and wrong_of(sql, rows) == []
 
 
-# Calls, and the number of texts that each parses: what is rejected is parsed once more, for the message.
+# Calls, and the number of texts that each parses: what is rejected is parsed twice more, for the reason and the hint.
 PARSED = {
-    "size_parse('1 KB')": 1, "size_parse('1 x')": 2, "size_parse('1 K', 'binary')": 1, "size_parse('1 x', 'binary')": 2,
+    "size_parse('1 KB')": 1, "size_parse('1 x')": 3, "size_parse('1 K', 'binary')": 1, "size_parse('1 x', 'binary')": 3,
     "size_try('1 x')": 1, "size_explain('1 KB')": 1, "size_explain('1 x')": 2, "size_sum('1 KB')": 1,
-    "size_sum('1 x')": 2, "size_text('1536')": 1, "size_text(1536)": 0, "size_text('1 x')": 0,
+    "size_sum('1 x')": 3, "size_text('1536')": 1, "size_text(1536)": 0, "size_text('1 x')": 0,
     "size_text('1' || hex(zeroblob(15)))": 2, "size_in(1, 'KiB')": 1, "size_in(1, 'k')": 1, "size_in(1, 'b')": 1,
     "size_in(1, ' B')": 1, "size_in(1, 'bits', 'ignore-case')": 1, "size_in(1, ' ')": 1, "size_in(1, 5)": 1,
     "size_in(1, 'x')": 2, "size_pretty(1, 'both')": 0, "'1 KB' < '1 x' COLLATE SIZE": 2,

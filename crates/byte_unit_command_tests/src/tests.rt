@@ -41,6 +41,7 @@ fn options_of<'a>(fields: &'a FieldList, has_header: bool) -> Options<'a> {
         total: false,
         max: None,
         min: None,
+        hints: true,
     }
 }
 
@@ -98,7 +99,8 @@ const OUTPUT: &[u8] = b"1 KiB\n1.5 KiB\n100 MB\n7 B\n";
 const COPIED: &[u8] = b"5 KB\nname\nx\n7 B\n";
 
 const REJECTED: &[u8] =
-    b"byte-unit: line 3: 'x': the character 'x' is not a number (character 1)\n";
+    b"byte-unit: line 3: 'x': the character 'x' is not a number (character 1); hint: a size begins \
+      with a number as in '12' or '1.5'\n";
 
 /// Runs in the same buffers, one after another. Some leave a part of a record, a text that waits, or a message.
 const ROWS: &[Row] = &[

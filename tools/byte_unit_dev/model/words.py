@@ -2,7 +2,7 @@
 
 import re
 
-from .exact import LETTERS, Rejected, read
+from .exact import LETTERS, WHITE_SPACE, Rejected, read
 
 NAMES = [("kilo", "kibi"), ("mega", "mebi"), ("giga", "gibi"), ("tera", "tebi"), ("peta", "pebi"), ("exa", "exbi"),
          ("zetta", "zebi"), ("yotta", "yobi"), ("ronna", "robi")]  # fmt: skip
@@ -70,3 +70,9 @@ def hint(text):
     unit = meant_unit(word) if is_size(before.removesuffix("-"), read) else None
     words = ", or read it with the option 'words'" * is_size(text, read_words)
     return unit and f"write '{unit}'{words}"
+
+
+def told_hint(data):
+    """Returns what a message has at its end for bytes that are no size: the hint, if there is one."""
+    found = hint(data.decode(errors="replace").strip(WHITE_SPACE))
+    return f"; hint: {found}" if found else ""

@@ -4,15 +4,16 @@ CREATE EXTENSION byte_unit;
 \set ECHO none
 \pset format unaligned
 \pset tuples_only on
--- Returns what a query returns, or the SQLSTATE, the message and the detail of its error.
+-- Returns what a query returns, or the SQLSTATE, the message, the detail and the hint of its error.
 CREATE FUNCTION tried(query text) RETURNS text LANGUAGE plpgsql AS $$
-DECLARE result text; detail text;
+DECLARE result text; detail text; hint text;
 BEGIN
     EXECUTE query INTO result;
     RETURN result;
 EXCEPTION WHEN OTHERS THEN
-    GET STACKED DIAGNOSTICS detail = PG_EXCEPTION_DETAIL;
-    RETURN replace(SQLSTATE || ' ' || SQLERRM || ': ' || detail, E'\r', ' ');
+    GET STACKED DIAGNOSTICS detail = PG_EXCEPTION_DETAIL, hint = PG_EXCEPTION_HINT;
+    hint := coalesce(' Hint: ' || nullif(hint, ''), '');
+    RETURN replace(SQLSTATE || ' ' || SQLERRM || ': ' || detail || hint, E'\r', ' ');
 END $$;
 CREATE TABLE calls(call text, answer text);
 -- Input and output.
@@ -21,9 +22,17 @@ INSERT INTO calls VALUES
     ($$'999999999999999999999999999999'::bytesize$$, '999999999999999999999999999.999 KB'),
     ($$'9007199254740993 B'::bytesize = '9007199254740992 B'::bytesize$$, 'false'), ($$pg_column_size('1 KB'::bytesize)$$, '16'),
     ($$'1 Ké'::bytesize$$, '22P02 invalid input syntax for type bytesize: "1 Ké": The character ''é'' is incorrect (''B'' or ''b'' or no character is expected) (character 4).'),
-    ($$''::bytesize$$, '22P02 invalid input syntax for type bytesize: "": No value can be found (at the end of the text).'),
+    ($$''::bytesize$$, '22P02 invalid input syntax for type bytesize: "": No value can be found (at the end of the text). Hint: a size begins with a number as in ''12'' or ''1.5'''),
     ($$'1000 RB'::bytesize$$, '22003 invalid input syntax for type bytesize: "1000 RB": The value 1000 exceeds the valid range.'),
     ($$('x' || repeat('é', 40))::bytesize$$, '22P02 invalid input syntax for type bytesize: "xééééééééééééééééééééééééééééééééééééééé..": The character ''x'' is not a number (character 1).');
+-- Sizes in words, and hints.
+INSERT INTO calls VALUES
+    ($$'5 bytes'::bytesize$$, '22P02 invalid input syntax for type bytesize: "5 bytes": The character ''y'' is incorrect (''i'' or no character is expected) (character 4). Hint: write ''B'', or read it with the option ''words'''),
+    ($$size_parse('5 byte s', 'words')$$, '22P02 invalid input syntax for type bytesize: "5 byte s": The character ''y'' is incorrect (''i'' or no character is expected) (character 4).'),
+    ($$size_parse('1 Mbps', 'words')$$, '22P02 invalid input syntax for type bytesize: "1 Mbps": The character ''p'' is incorrect (''i'' or no character is expected) (character 5). Hint: a size has no rate: leave out what it is per second'),
+    ($$size_parse('-1')$$, '22P02 invalid input syntax for type bytesize: "-1": The character ''-'' is not a number (character 1). Hint: a size is not negative'),
+    ($$size_parse('1000000 RONNABYTES', 'words')$$, '22003 invalid input syntax for type bytesize: "1000000 RONNABYTES": The value 1000000 exceeds the valid range.'),
+    ($$concat_ws('|', size_parse('64 kB', 'words binary'), size_explain('5 bytes', 'words'))$$, '64 KiB');
 -- Texts of 8, 16 and 32 bytes, which fill what the server allocates for them, one after another.
 INSERT INTO calls VALUES
     ($$array_agg(t::bytesize)::text FROM unnest('{1.25 KiB,1.25 MiB,1.25 GiB}'::text[]) AS t$$, '{"1.25 KiB","1.25 MiB","1.25 GiB"}'),
@@ -35,8 +44,8 @@ INSERT INTO calls VALUES
     ($$size_explain('1 KB')$$, NULL), ($$length(size_in('1'::bytesize, 'KiB', 65535))$$, '65541'),
     ($$size_explain('1 Kb!', ' ignore-case ')$$, 'the character ''!'' is incorrect (''i'' or no character is expected) (character 5)'),
     ($$size_parse('1', NULL)$$, '22004 flags cannot be NULL: '), ($$size_explain(NULL, NULL)$$, '22004 flags cannot be NULL: '),
-    ($$size_explain('1', 'bits')$$, '22023 "bits" has flags other than ignore-case and binary: '),
-    ($$size_parse(NULL, 'bogus')$$, '22023 "bogus" has flags other than ignore-case and binary: '),
+    ($$size_explain('1', 'bits')$$, '22023 "bits" has flags other than ignore-case, binary and words: '),
+    ($$size_parse(NULL, 'bogus')$$, '22023 "bogus" has flags other than ignore-case, binary and words: '),
     ($$size_in('1'::bytesize, 'K', 'binary')$$, '22023 "binary" has flags other than ignore-case: '),
     ($$size_text(NULL, -1)$$, '22023 -1 is not a precision: an integer from 0 to 65535 is expected: '),
     ($$size_text('1'::bytesize, 65536)$$, '22023 65536 is not a precision: an integer from 0 to 65535 is expected: '),

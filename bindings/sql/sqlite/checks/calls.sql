@@ -4,10 +4,10 @@ SELECT size_parse('1 K', 'bits'); -- 1000
 SELECT size_parse('1 KB', ' bits  ignore-case '); -- 8000
 SELECT size_parse('1', ''); -- 1
 SELECT size_parse(NULL) IS NULL, size_parse(NULL, 'binary') IS NULL, size_text(NULL, 3, 'bits') IS NULL; -- 1|1|1
-SELECT size_parse(NULL, 'bogus'); -- error: 'bogus' has flags other than 'bits', 'ignore-case' and 'binary'
+SELECT size_parse(NULL, 'bogus'); -- error: 'bogus' has flags other than 'bits', 'ignore-case', 'binary' and 'words'
 SELECT size_try(NULL, NULL); -- error: NULL is not a text of flags
 SELECT size_explain(NULL, NULL); -- error: NULL is not a text of flags
-SELECT size_sum(NULL, 'bogus'); -- error: 'bogus' has flags other than 'bits', 'ignore-case' and 'binary'
+SELECT size_sum(NULL, 'bogus'); -- error: 'bogus' has flags other than 'bits', 'ignore-case', 'binary' and 'words'
 SELECT size_text(NULL, -1); -- error: -1 is not a precision: an INTEGER from 0 to 65535 is expected
 SELECT size_in(NULL, 'KiB', 'binary'); -- error: 'binary' has flags other than 'bits' and 'ignore-case'
 SELECT size_in(1, NULL, -1); -- error: -1 is not a precision: an INTEGER from 0 to 65535 is expected
@@ -48,14 +48,14 @@ SELECT size_parse(1.1); -- error: the REAL value 1.1 is not a size: TEXT or an I
 SELECT size_sum(column1) FROM (VALUES ('1'), (1.5)); -- error: the REAL value 1.5 is not a size: TEXT or an INTEGER is expected
 SELECT size_sum(column1) FROM (VALUES ('1'), (x'31')); -- error: a BLOB of length 1 is not a size: TEXT or an INTEGER is expected
 SELECT size_parse(x'3132'); -- error: a BLOB of length 2 is not a size: TEXT or an INTEGER is expected
-SELECT size_parse(-5); -- error: '-5' is not a size: the character '-' is not a number (character 1)
-SELECT size_parse('1', 'bist'); -- error: 'bist' has flags other than 'bits', 'ignore-case' and 'binary'
-SELECT size_try('1', 'Binary'); -- error: 'Binary' has flags other than 'bits', 'ignore-case' and 'binary'
-SELECT size_sum('1', 'bin'); -- error: 'bin' has flags other than 'bits', 'ignore-case' and 'binary'
+SELECT size_parse(-5); -- error: '-5' is not a size: the character '-' is not a number (character 1); hint: a size is not negative
+SELECT size_parse('1', 'bist'); -- error: 'bist' has flags other than 'bits', 'ignore-case', 'binary' and 'words'
+SELECT size_try('1', 'Binary'); -- error: 'Binary' has flags other than 'bits', 'ignore-case', 'binary' and 'words'
+SELECT size_sum('1', 'bin'); -- error: 'bin' has flags other than 'bits', 'ignore-case', 'binary' and 'words'
 SELECT size_in(1, 'B', 'binary'); -- error: 'binary' has flags other than 'bits' and 'ignore-case'
 SELECT size_pretty(1, 'both', 1, 'binary'); -- error: 'binary' has flags other than 'bits'
 SELECT size_parse('1', 1); -- error: 1 is not a text of flags
-SELECT size_parse('1', 'bits,ignore-case'); -- error: 'bits,ignore-case' has flags other than 'bits', 'ignore-case' and 'binary'
+SELECT size_parse('1', 'bits,ignore-case'); -- error: 'bits,ignore-case' has flags other than 'bits', 'ignore-case', 'binary' and 'words'
 SELECT size_parse('1', NULL); -- error: NULL is not a text of flags
 SELECT size_text('1.5 KiB'); -- error: '1.5 KiB' is not an INTEGER such as size_parse returns
 SELECT size_text('-1'); -- error: '-1' is not an INTEGER such as size_parse returns
@@ -86,3 +86,9 @@ SELECT size_parse('x' || replace(hex(zeroblob(300)), '00', '😀')); -- error: '
 SELECT size_parse(replace(hex(zeroblob(41)), '00', '12')); -- error: '12121212121212121212121212121212121212121212121212121212121212121212121212121212..' is not a size: value number is too long (character 35)
 SELECT size_parse(CAST(x'31ff' AS TEXT)); -- error: '1\xff' is not a size: the text is not UTF-8
 SELECT size_parse(CAST(x'31c285ff' AS TEXT)); -- error: '1\xc2\x85\xff' is not a size: the text is not UTF-8
+SELECT size_parse('5 bytes'); -- error: '5 bytes' is not a size: the character 'y' is incorrect ('i' or no character is expected) (character 4); hint: write 'B', or read it with the option 'words'
+SELECT size_parse('5 byte s', 'words'); -- error: '5 byte s' is not a size: the character 'y' is incorrect ('i' or no character is expected) (character 4)
+SELECT size_parse('1 Mbps', 'words'); -- error: '1 Mbps' is not a size: the character 'p' is incorrect ('i' or no character is expected) (character 5); hint: a size has no rate: leave out what it is per second
+SELECT size_sum(column1, 'words') FROM (VALUES ('5 bytes'), ('2 gigs')); -- error: '2 gigs' is not a size: the character 'g' is incorrect ('B' or 'b' or no character is expected) (character 5); hint: write 'GB'
+SELECT size_parse('1000000 RONNABYTES', 'words'); -- error: '1000000 RONNABYTES' is not a size: the value 1000000 exceeds the valid range
+SELECT size_parse('8 kilobits', 'bits words'), size_explain('5 bytes', 'words') IS NULL; -- 8000|1

@@ -202,7 +202,9 @@ static void with_text(sqlite3 *db, const char *sql, const char *text, int len, c
 static void with_zero_bytes(sqlite3 *db)
 {
     with_text(db, "SELECT size_parse(?)", "12", 1, "1");
-    with_text(db, "SELECT size_parse(?)", "", 0, "'' is not a size: no value can be found (at the end of the text)");
+    with_text(db, "SELECT size_parse(?)", "", 0,
+              "'' is not a size: no value can be found (at the end of the text); hint: a size begins with a number as"
+              " in '12' or '1.5'");
     with_text(db, "SELECT size_explain(?) IS NULL", "1\0K", 3, "0");
     with_text(db, "SELECT size_text(1, ?)", "bits\0", 5, "'bits\\u{0}' has flags other than 'bits'");
     with_text(db, "SELECT size_in(1, ?)", "KB\0", 3,

@@ -15,11 +15,11 @@ INSERT INTO quotas VALUES ('a', '1.5 KiB'), ('b', '1 MB'), ('c', 12);
 INSERT INTO checked VALUES ('12 Kiq'); -- error: CHECK constraint failed: size_explain(quota) IS NULL
 INSERT INTO checked VALUES (x'3132'); -- error: CHECK constraint failed: size_explain(quota) IS NULL
 INSERT INTO checked VALUES ('1 KB'), (''); -- error: CHECK constraint failed: size_explain(quota) IS NULL
-INSERT INTO quotas VALUES ('d', '-1'); -- error: '-1' is not a size: the character '-' is not a number (character 1)
+INSERT INTO quotas VALUES ('d', '-1'); -- error: '-1' is not a size: the character '-' is not a number (character 1); hint: a size is not negative
 INSERT INTO quotas VALUES ('d', '10 EB'); -- error: '10 EB' is 10000000000000000000 bytes, above the greatest INTEGER, 9223372036854775807
 INSERT INTO quotas VALUES ('d', '1536'); -- error: UNIQUE constraint failed: quotas.quota
-UPDATE quotas SET quota = '' WHERE name = 'a'; -- error: '' is not a size: no value can be found (at the end of the text)
-INSERT INTO stored VALUES ('2 KB'), ('-1'); -- error: '-1' is not a size: the character '-' is not a number (character 1)
+UPDATE quotas SET quota = '' WHERE name = 'a'; -- error: '' is not a size: no value can be found (at the end of the text); hint: a size begins with a number as in '12' or '1.5'
+INSERT INTO stored VALUES ('2 KB'), ('-1'); -- error: '-1' is not a size: the character '-' is not a number (character 1); hint: a size is not negative
 INSERT INTO checked VALUES (NULL), ('1 KB');
 SELECT count(*) FROM checked; -- 2
 INSERT INTO stored VALUES (NULL), ('2 KB');
