@@ -224,7 +224,7 @@ class Run:
         size = read(text, options)
         if isinstance(size, Rejected):
             if options.invalid != "ignore":
-                hint = "" if options.no_hints else told_hint(text)
+                hint = "" if options.no_hints or size.name == "out of range" else told_hint(text)
                 self.tell(f"{named}: {why_not(text, size)}{hint}", 0 if options.invalid == "warn" else 2)
             if options.invalid == "abort":
                 raise Aborted

@@ -296,6 +296,10 @@ def ended_well(*words, **how):
     return got.stdout.rstrip("\n") if got.returncode == 0 else None
 
 
+# The options of the command that the table means.
+OF_THE_COMMAND = {"words": "--words", "binary": "--from=iec"}
+
+
 def test_table_of_the_readme(server, program):
     """Compares what the table in README.md says of numfmt, PostgreSQL, humanfriendly and byte-unit with what they do."""
     need("numfmt", "import humanfriendly")
@@ -312,7 +316,8 @@ def test_table_of_the_readme(server, program):
         Program(lambda text: ended_well(*other, "parse_size", repr(text)),
                 lambda size: ended_well(*other, "format_size", repr(size))),
         None,
-        Program(lambda text: ended_well(program, "--to=plain", text), lambda size: ended_well(program, str(size))),
+        Program(lambda text, *options: ended_well(program, "--to=plain", *map(OF_THE_COMMAND.get, options), text),
+                lambda size: ended_well(program, str(size))),
     ]
     assert [beside.column(one, at) for at, one in enumerate(programs) if one] == [[]] * 4
 

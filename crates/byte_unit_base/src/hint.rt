@@ -6,8 +6,10 @@ ghost use Rattle.std.specs.Option.{option_map};
 ghost use Rattle.std.specs.Str.{IsAscii};
 ghost use Rattle.byte_unit_base.specs.Grammar.SizeText.{trim_of};
 ghost use Rattle.byte_unit_base.specs.Grammar.Units.{shape_of};
-ghost use Rattle.byte_unit_base.specs.Errors.Hints.{is_size, number_len, has_other_form, is_other_number, is_grouped};
-ghost use Rattle.byte_unit_base.specs.Errors.Hints.{rated_len, is_rate, abbreviated_unit, before_word, meant_unit, hint_for, hint_of};
+ghost use Rattle.byte_unit_base.specs.Errors.Hints.{is_size, number_len, has_other_form, is_hexadecimal};
+ghost use Rattle.byte_unit_base.specs.Errors.Hints.{is_other_number, is_grouped, rated_len, is_rate};
+ghost use Rattle.byte_unit_base.specs.Errors.Hints.{abbreviated_unit, before_word, meant_unit, word_hint};
+ghost use Rattle.byte_unit_base.specs.Errors.Hints.{hint_for, hint_of};
 
 use crate::Unit;
 use crate::read::unit::unit_with_prefix;
@@ -71,10 +73,18 @@ fn hint_for(text: &[u8]) -> Option<Hint>
     } else if is_rate(text) {
         Some(Hint::Rate)
     } else {
-        match read_ascii_in_words(text, Flags::ANY) {
-            Some(found) => Some(Hint::Word(found.unit)),
-            None => Some(Hint::Unit(meant_unit(text)?)),
-        }
+        word_hint(text)
+    }
+}
+
+/// Returns a hint for a text that ends in a word.
+fn word_hint(text: &[u8]) -> Option<Hint>
+    requires { IsAscii text.now }
+    ensures { result ≡ word_hint text.now }
+{
+    match read_ascii_in_words(text, Flags::ANY) {
+        Some(found) => Some(Hint::Word(found.unit)),
+        None => Some(Hint::Unit(meant_unit(text)?)),
     }
 }
 
@@ -112,12 +122,18 @@ fn number_len(text: &[u8]) -> usize
 fn has_other_form(next: u8, after: u8) -> bool
     ensures { result ≡ has_other_form next after }
 {
-    let letter = next.to_ascii_lowercase();
-    (letter == b'e' && (after.is_ascii_digit() || after == b'+' || after == b'-'))
-        || letter == b'x'
+    let exponent = after.is_ascii_digit() || after == b'+' || after == b'-';
+    (next.to_ascii_lowercase() == b'e' && exponent)
         || next == b'^'
         || next == b'*'
         || next == b'%'
+}
+
+/// Returns whether a text begins with `0x`.
+fn is_hexadecimal(text: &[u8]) -> bool
+    ensures { result ≡ is_hexadecimal text.now }
+{
+    byte_at(text, 0) == b'0' && byte_at(text, 1).to_ascii_lowercase() == b'x'
 }
 
 /// Returns whether a text does not begin with a number as the grammar has it.
@@ -128,6 +144,7 @@ fn is_other_number(text: &[u8]) -> bool
     !byte_at(text, 0).is_ascii_digit()
         || byte_at(text, len.saturating_sub(1)) == b'.'
         || has_other_form(byte_at(text, len), byte_at(text, len + 1))
+        || is_hexadecimal(text)
 }
 
 /// Returns whether digits are grouped.

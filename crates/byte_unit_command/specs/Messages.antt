@@ -10,6 +10,8 @@ use Rattle.byte_unit_base.specs.Errors.Hints.{hint_of, hint_text}
 use Rattle.byte_unit_base.specs.Grammar.SizeText.{trim_of}
 use Rattle.byte_unit_base.specs.declared.hint.Hint.{Hint}
 use Rattle.byte_unit_base.specs.declared.errors.LocatedError.{LocatedError}
+use Rattle.byte_unit_base.specs.declared.errors.Location.{Location}
+use Rattle.byte_unit_base.specs.declared.errors.Location.TheVariants.{Whole}
 use Rattle.byte_unit_command.specs.Field.{IsSizeError, without_suffix}
 use Rattle.byte_unit_command.specs.State.{Context}
 use Rattle.byte_unit_command.specs.Sums.{is_above, is_below}
@@ -27,9 +29,10 @@ AreErrorWords e words =
     (message : List ℕ) × IfSome (parse_text e.error) (λ text. message ≡ text)
     × (words ≡ message ++ location_words e.location)
 
--- the hint for a text that is told
-abbrev pub told_hint : Options → List ℕ → Option Hint
-told_hint options text = if options.hints then hint_of (trim_of text) else None
+-- the hint for a text that is told; none if only the size is too large, which has no place
+abbrev pub told_hint : Options → Location → List ℕ → Option Hint
+told_hint options Whole text = None
+told_hint options _ text = if options.hints then hint_of (trim_of text) else None
 
 -- the words of a hint, after those for the error
 abbrev pub hint_words : Option Hint → List ℕ
@@ -83,7 +86,7 @@ abbrev pub IsFieldError : Options → List ℕ → FieldError → Type 0
 IsFieldError options field NotUtf8 = ¬ IsUtf8 (without_suffix options.suffix.now field)
 IsFieldError options field (Rejected e hint) =
     let text = without_suffix options.suffix.now field in
-    IsUtf8 text × IsSizeError options.spec text e × (hint ≡ told_hint options text)
+    IsUtf8 text × IsSizeError options.spec text e × (hint ≡ told_hint options e.location text)
 IsFieldError options field _ = ⊥
 
 -- whether rejected fields are told

@@ -13,7 +13,7 @@ ghost use Rattle.byte_unit_stream.specs.Beginnings.{IsBeginningOf};
 
 use crate::options::{Invalid, Options};
 use crate::size::without_suffix;
-use byte_unit_base::{Hint, LocatedError, Quoted, hint_of, size};
+use byte_unit_base::{Hint, LocatedError, Location, Quoted, hint_of, size};
 use std::alloc::{AllocError, Allocator};
 use std::fmt::Write;
 
@@ -97,21 +97,29 @@ fn reason_of(options: &Options, field: &[u8]) -> FieldError
 {
     let text = without_suffix(options.suffix, field);
     match size::explain(text, options.spec) {
-        Some(Err(error)) => FieldError::Rejected(error, told_hint(options, text)),
+        Some(Err(error)) => {
+            let hint = told_hint(options, error.location, text);
+            FieldError::Rejected(error, hint)
+        }
         // Never: a field that is parsed as a size is one.
         Some(Ok(_)) => FieldError::NotUtf8,
         None => FieldError::NotUtf8,
     }
 }
 
-/// Returns the hint for a text that is told, if hints are.
-fn told_hint(options: &Options, text: &[u8]) -> Option<Hint>
-    ensures { IsUtf8 text.now → result ≡ told_hint options.now text.now }
+/// Returns the hint for a text that is told, if hints are. There is none if only the size is too large.
+fn told_hint(options: &Options, location: Location, text: &[u8]) -> Option<Hint>
+    ensures { IsUtf8 text.now → result ≡ told_hint options.now location text.now }
 {
-    if options.hints {
-        hint_of(str::from_utf8(text).ok()?)
-    } else {
-        None
+    match location {
+        Location::Whole => None,
+        Location::Character(_) | Location::End => {
+            if options.hints {
+                hint_of(str::from_utf8(text).ok()?)
+            } else {
+                None
+            }
+        }
     }
 }
 

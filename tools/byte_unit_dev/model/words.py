@@ -9,8 +9,8 @@ NAMES = [("kilo", "kibi"), ("mega", "mebi"), ("giga", "gibi"), ("tera", "tebi"),
 PREFIXES = {name: letter + "i" * binary for letter, names in zip(LETTERS, NAMES) for binary, name in enumerate(names)}
 WORD = re.compile(rf"(?ai)({'|'.join(PREFIXES)}|[{LETTERS}]i?)?(byte|octet|bit)s?")
 RATE = re.compile(r"(?i)(.*)ps|([^/]*)/.*", re.S)
-# What follows a number that has another form: an exponent, a base, a power, a product, a percentage.
-OTHER_FORM = re.compile(r"[Ee][0-9+-]|[Xx^*%]")
+# What follows a number that has another form: an exponent, a power, a product, a percentage.
+OTHER_FORM = re.compile(r"[Ee][0-9+-]|[\^*%]")
 
 
 def unit_of_word(word):
@@ -59,7 +59,7 @@ def hint(text):
         return "a size is not negative"
     number = re.match("[0-9.]*", text)[0]
     rest = text[len(number) :]
-    if not re.match("[0-9]", text) or number.endswith(".") or OTHER_FORM.match(rest):
+    if not re.match("[0-9]", text) or number.endswith(".") or OTHER_FORM.match(rest) or re.match("0[xX]", text):
         return "a size begins with a number as in '12' or '1.5'"
     if re.match("[, _'][0-9]", rest):
         return "digits are not grouped, and the point is '.'"

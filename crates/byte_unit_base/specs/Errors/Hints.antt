@@ -31,19 +31,22 @@ abbrev pub number_len : List ℕ → ℕ
 number_len text = prefix_len (λ c. is_ascii_digit c || nat_eq c point) text
 
 -- whether a number goes on so, with these two characters after its digits and points, that has another form: with an
--- exponent, in another base, as a power or a product, or in percent
+-- exponent, as a power or a product, or in percent
 abbrev pub has_other_form : ℕ → ℕ → Bool
 has_other_form next after =
-    let letter = to_ascii_lowercase next in
-    (nat_eq letter 101 && (is_ascii_digit after || nat_eq after 43 || nat_eq after 45))
-    || nat_eq letter 120 || nat_eq next 94 || nat_eq next 42 || nat_eq next 37
+    (nat_eq (to_ascii_lowercase next) 101 && (is_ascii_digit after || nat_eq after 43 || nat_eq after 45))
+    || nat_eq next 94 || nat_eq next 42 || nat_eq next 37
+
+-- whether the text begins with `0x`
+abbrev pub is_hexadecimal : List ℕ → Bool
+is_hexadecimal text = nat_eq (slice_index text 0) 48 && nat_eq (to_ascii_lowercase (slice_index text 1)) 120
 
 -- whether the text does not begin with a number as the grammar has it
 abbrev pub is_other_number : List ℕ → Bool
 is_other_number text =
     let len = number_len text in
     not (is_ascii_digit (slice_index text 0)) || nat_eq (slice_index text (len - 1)) point
-    || has_other_form (slice_index text len) (slice_index text (len + 1))
+    || has_other_form (slice_index text len) (slice_index text (len + 1)) || is_hexadecimal text
 
 -- whether a comma, a space, `_` or `'` is between the first digits and another one
 abbrev pub is_grouped : List ℕ → Bool
@@ -88,6 +91,13 @@ meant_unit text =
     if is_size (before_word text)
     then elim (unit_of_word word) [ Some unit ↦ Some unit | None ↦ abbreviated_unit word ] else None
 
+-- the hint for a text that ends in a word
+abbrev pub word_hint : List ℕ → Option Hint
+word_hint text = elim (measure_of_text any_flags text) [
+  | Some found ↦ Some (Word (unit_of_shape found.1))
+  | None ↦ option_map (λ unit. Unit (unit_of_shape unit)) (meant_unit text)
+]
+
 -- the hint for a text of ASCII; one that is in the grammar has none
 abbrev pub hint_for : List ℕ → Option Hint
 hint_for text =
@@ -95,11 +105,7 @@ hint_for text =
     else (if nat_eq (slice_index text 0) 45 then Some Negative
     else (if is_other_number text then Some Number
     else (if is_grouped text then Some Grouped
-    else (if is_rate text then Some Rate
-    else elim (measure_of_text any_flags text) [
-      | Some found ↦ Some (Word (unit_of_shape found.1))
-      | None ↦ option_map (λ unit. Unit (unit_of_shape unit)) (meant_unit text)
-    ]))))
+    else (if is_rate text then Some Rate else word_hint text))))
 
 -- the hint for a text, if there is one
 abbrev pub hint_of : List ℕ → Option Hint

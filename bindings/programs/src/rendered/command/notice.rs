@@ -6,7 +6,7 @@ use crate::rattle::alloc::{AllocError, Allocator};
 use crate::rattle::{String, Vec};
 use crate::rendered::command::options::{Invalid, Options};
 use crate::rendered::command::size::without_suffix;
-use byte_unit::rendered::base::{Hint, LocatedError, Quoted, hint_of, size};
+use byte_unit::rendered::base::{Hint, LocatedError, Location, Quoted, hint_of, size};
 use std::str;
 
 /// The context of a record: what says how its fields are converted, and where they are.
@@ -76,16 +76,28 @@ fn tells_rejected(invalid: Invalid) -> bool {
 fn reason_of(options: &Options, field: &[u8]) -> FieldError {
     let text = without_suffix(options.suffix, field);
     match size::explain(text, options.spec) {
-        Some(Err(error)) => FieldError::Rejected(error, told_hint(options, text)),
+        Some(Err(error)) => {
+            let hint = told_hint(options, error.location, text);
+            FieldError::Rejected(error, hint)
+        }
         // Never: a field that is parsed as a size is one.
         Some(Ok(_)) => FieldError::NotUtf8,
         None => FieldError::NotUtf8,
     }
 }
 
-/// Returns the hint for a text that is told, if hints are.
-fn told_hint(options: &Options, text: &[u8]) -> Option<Hint> {
-    if options.hints { hint_of(str::from_utf8(text).ok()?) } else { None }
+/// Returns the hint for a text that is told, if hints are. There is none if only the size is too large.
+fn told_hint(options: &Options, location: Location, text: &[u8]) -> Option<Hint> {
+    match location {
+        Location::Whole => None,
+        Location::Character(_) | Location::End => {
+            if options.hints {
+                hint_of(str::from_utf8(text).ok()?)
+            } else {
+                None
+            }
+        }
+    }
 }
 
 /// Appends the messages about a size that is beyond a limit.

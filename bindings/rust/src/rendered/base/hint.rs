@@ -58,10 +58,15 @@ fn hint_for(text: &[u8]) -> Option<Hint> {
     } else if is_rate(text) {
         Some(Hint::Rate)
     } else {
-        match read_ascii_in_words(text, Flags::ANY) {
-            Some(found) => Some(Hint::Word(found.unit)),
-            None => Some(Hint::Unit(meant_unit(text)?)),
-        }
+        word_hint(text)
+    }
+}
+
+/// Returns a hint for a text that ends in a word.
+fn word_hint(text: &[u8]) -> Option<Hint> {
+    match read_ascii_in_words(text, Flags::ANY) {
+        Some(found) => Some(Hint::Word(found.unit)),
+        None => Some(Hint::Unit(meant_unit(text)?)),
     }
 }
 
@@ -89,12 +94,13 @@ fn number_len(text: &[u8]) -> usize {
 
 /// Returns whether a number that goes on with these bytes has another form.
 fn has_other_form(next: u8, after: u8) -> bool {
-    let letter = next.to_ascii_lowercase();
-    (letter == b'e' && (after.is_ascii_digit() || after == b'+' || after == b'-'))
-        || letter == b'x'
-        || next == b'^'
-        || next == b'*'
-        || next == b'%'
+    let exponent = after.is_ascii_digit() || after == b'+' || after == b'-';
+    (next.to_ascii_lowercase() == b'e' && exponent) || next == b'^' || next == b'*' || next == b'%'
+}
+
+/// Returns whether a text begins with `0x`.
+fn is_hexadecimal(text: &[u8]) -> bool {
+    byte_at(text, 0) == b'0' && byte_at(text, 1).to_ascii_lowercase() == b'x'
 }
 
 /// Returns whether a text does not begin with a number as the grammar has it.
@@ -103,6 +109,7 @@ fn is_other_number(text: &[u8]) -> bool {
     !byte_at(text, 0).is_ascii_digit()
         || byte_at(text, len.saturating_sub(1)) == b'.'
         || has_other_form(byte_at(text, len), byte_at(text, len + 1))
+        || is_hexadecimal(text)
 }
 
 /// Returns whether digits are grouped.
@@ -147,8 +154,17 @@ fn abbreviated_unit(word: &[u8]) -> Option<Unit> {
     }
 }
 
-/// Returns the unit that the word at the end of a text means.
+/// Returns the text before the word at its end, and before a hyphen there.
+fn before_word(text: &[u8]) -> &[u8] {
+    let front = &text[..word_start(text)];
+    if ends_in(front, b"-") { &front[..front.len() - 1] } else { front }
+}
+
+/// Returns the unit that the word at the end of a text means, if a size is before it.
 fn meant_unit(text: &[u8]) -> Option<Unit> {
+    if !is_size(before_word(text)) {
+        return None;
+    }
     let word = &text[word_start(text)..];
     match unit_of_word(word) {
         Some(unit) => Some(unit),
