@@ -123,7 +123,7 @@ fn has_other_form(next: u8, after: u8) -> bool
     ensures { result ≡ has_other_form next after }
 {
     let exponent = after.is_ascii_digit() || after == b'+' || after == b'-';
-    (next.to_ascii_lowercase() == b'e' && exponent)
+    ((next == b'e' || next == b'E') && exponent)
         || next == b'^'
         || next == b'*'
         || next == b'%'
@@ -133,7 +133,8 @@ fn has_other_form(next: u8, after: u8) -> bool
 fn is_hexadecimal(text: &[u8]) -> bool
     ensures { result ≡ is_hexadecimal text.now }
 {
-    byte_at(text, 0) == b'0' && byte_at(text, 1).to_ascii_lowercase() == b'x'
+    let next = byte_at(text, 1);
+    byte_at(text, 0) == b'0' && (next == b'x' || next == b'X')
 }
 
 /// Returns whether a text does not begin with a number as the grammar has it.

@@ -75,8 +75,8 @@ pub fn binary_spec_at(flags: u32) -> Option<ParseSpec>
     })
 }
 
-/// Returns how to parse without words, by a word with any of the flags of [`binary_spec_at`]. Returns `None` if the word
-/// has another flag.
+/// Returns how to parse without words, by a word with any of the flags of [`binary_spec_at`]. Returns `None` if the
+/// word has another flag.
 fn plain_spec_at(flags: u32) -> Option<ParseSpec>
     ensures { result ≡ plain_spec_at flags }
 {
@@ -87,8 +87,8 @@ fn plain_spec_at(flags: u32) -> Option<ParseSpec>
     }
 }
 
-/// Returns how to parse, by a word with the flag `WORDS` and, beside it, any of the flags of [`binary_spec_at`]. Returns
-/// `None` if the word does not have the flag `WORDS`, or has another flag.
+/// Returns how to parse, by a word with the flag `WORDS` and, beside it, any of the flags of [`binary_spec_at`].
+/// Returns `None` if the word does not have the flag `WORDS`, or has another flag.
 pub fn words_spec_at(flags: u32) -> Option<ParseSpec>
     ensures { result ≡ words_spec_at flags }
 {

@@ -12,9 +12,9 @@ use crate::flags::words_spec_at;
 use crate::parse::parse_as;
 use crate::values::Number;
 
-/// Parses as `byte_unit_parse_to` does, with the flag `WORDS` (16) beside the others, of which `BINARY_PREFIXES` (8) may
-/// be one: words for units are read too, as in `5 bytes`. A string that is read without words is read as the same size,
-/// and one that is no size in words either has the same error.
+/// Parses as `byte_unit_parse_to` does, with the flag `WORDS` (16) beside the others, of which `BINARY_PREFIXES` (8)
+/// may be one: words for units are read too, as in `5 bytes`. A string that is read without words is read as the same
+/// size, and one that is no size in words either has the same error.
 ///
 /// Returns `INVALID_ARGUMENT` and writes nothing without that flag, or if another is set.
 ///

@@ -61,7 +61,8 @@ abbrev pub record_rules : List Rule
 record_rules =
     lettered 100 (value (codes "delimiter")) ∷ not_free (flag (codes "blanks")) ∷ not_simple (value (codes "field"))
     ∷ header ∷ not_simple (value (codes "padding")) ∷ value (codes "invalid") ∷ flag (codes "total")
-    ∷ value (codes "max") ∷ value (codes "min") ∷ flag (codes "no-hints") ∷ lettered 122 (flag (codes "zero-terminated")) ∷ operands ∷ []
+    ∷ value (codes "max") ∷ value (codes "min") ∷ flag (codes "no-hints")
+    ∷ lettered 122 (flag (codes "zero-terminated")) ∷ operands ∷ []
 
 -- a command with these arguments more
 abbrev pub with_rules : App → List Rule → App

@@ -31,7 +31,7 @@ LIBRARY = [
     (".{}(", """as_bytes chars checked_add checked_div checked_mul checked_sub copy_from_slice div_ceil encode_utf8
         eq_ignore_ascii_case fill filter is_ascii is_ascii_alphabetic is_ascii_digit is_ascii_graphic is_control is_empty
         is_some iter leading_zeros max min ok ok_or parse saturating_add saturating_mul saturating_sub split_at
-        split_first then then_some to_ascii_lowercase trailing_zeros trim trim_start unwrap unwrap_or wrapping_add
+        split_first then then_some trailing_zeros trim trim_start unwrap unwrap_or wrapping_add
         wrapping_mul wrapping_sub write_str"""),
     # By hand, in `support`.
     ("{}", """InlineText InlineText::of last_16_digits read_digits u8x16 u8x32::from_slice

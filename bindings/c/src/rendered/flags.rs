@@ -64,14 +64,14 @@ pub fn binary_spec_at(flags: u32) -> Option<ParseSpec> {
     Some(ParseSpec { binary: true, ..spec })
 }
 
-/// Returns how to parse without words, by a word with any of the flags of [`binary_spec_at`]. Returns `None` if the word
-/// has another flag.
+/// Returns how to parse without words, by a word with any of the flags of [`binary_spec_at`]. Returns `None` if the
+/// word has another flag.
 fn plain_spec_at(flags: u32) -> Option<ParseSpec> {
     if flags < BINARY_PREFIXES { parse_spec_at(flags) } else { binary_spec_at(flags) }
 }
 
-/// Returns how to parse, by a word with the flag `WORDS` and, beside it, any of the flags of [`binary_spec_at`]. Returns
-/// `None` if the word does not have the flag `WORDS`, or has another flag.
+/// Returns how to parse, by a word with the flag `WORDS` and, beside it, any of the flags of [`binary_spec_at`].
+/// Returns `None` if the word does not have the flag `WORDS`, or has another flag.
 pub fn words_spec_at(flags: u32) -> Option<ParseSpec> {
     if flags < WORDS {
         return None;

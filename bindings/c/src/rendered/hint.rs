@@ -12,8 +12,8 @@ use core::str;
 const MAX_LEN: usize = 64;
 
 /// Writes a hint for a string that is rejected to the start of `out`: how the size that was meant is written. Returns
-/// its length, at most 64 bytes. Returns the length and writes nothing if `out` is shorter. Returns 0 and writes nothing
-/// if the string is in the grammar of sizes, has no hint or is not UTF-8.
+/// its length, at most 64 bytes. Returns the length and writes nothing if `out` is shorter. Returns 0 and writes
+/// nothing if the string is in the grammar of sizes, has no hint or is not UTF-8.
 ///
 /// For example, `2 gigs` gives 10, the length of `write 'GB'`.
 #[unsafe(no_mangle)]

@@ -5,7 +5,7 @@ use Rattle.std.specs.Prelude.{true, false, slice_index, Option, Some, None, opti
 use Rattle.std.specs.Option.{option_map}
 use Rattle.std.specs.Result.{is_ok}
 use Rattle.std.specs.List.{list_all, prefix_len}
-use Rattle.std.specs.Char.{is_ascii, is_ascii_digit, to_ascii_lowercase}
+use Rattle.std.specs.Char.{is_ascii, is_ascii_digit}
 use Rattle.std.specs.Str.{str_eq_ignore_ascii_case}
 use Rattle.byte_unit_base.specs.Grammar.Shape.{Shape, shape}
 use Rattle.byte_unit_base.specs.Grammar.Spelling.{Flags, flags_of}
@@ -34,12 +34,13 @@ number_len text = prefix_len (λ c. is_ascii_digit c || nat_eq c point) text
 -- exponent, as a power or a product, or in percent
 abbrev pub has_other_form : ℕ → ℕ → Bool
 has_other_form next after =
-    (nat_eq (to_ascii_lowercase next) 101 && (is_ascii_digit after || nat_eq after 43 || nat_eq after 45))
+    ((nat_eq next 101 || nat_eq next 69) && (is_ascii_digit after || nat_eq after 43 || nat_eq after 45))
     || nat_eq next 94 || nat_eq next 42 || nat_eq next 37
 
 -- whether the text begins with `0x`
 abbrev pub is_hexadecimal : List ℕ → Bool
-is_hexadecimal text = nat_eq (slice_index text 0) 48 && nat_eq (to_ascii_lowercase (slice_index text 1)) 120
+is_hexadecimal text =
+    nat_eq (slice_index text 0) 48 && (nat_eq (slice_index text 1) 120 || nat_eq (slice_index text 1) 88)
 
 -- whether the text does not begin with a number as the grammar has it
 abbrev pub is_other_number : List ℕ → Bool

@@ -27,7 +27,8 @@ abbrev pub IsMeasureAs : ParseSpec → Version → List ℕ → ℕ → Shape �
 IsMeasureAs spec version text number unit =
     IsWrittenAs spec version text number unit ⊎ IsInWords spec version text number unit
 
--- the input is `number` (scaled by 10^28) of some unit, and `n` is that number of the unit that is meant, rounded up to a whole number of bytes or bits
+-- the input is `number` (scaled by 10^28) of some unit, and `n` is that number of the unit that is meant, rounded up to
+-- a whole number of bytes or bits
 pub record IsReadAs
     (spec : ParseSpec) (version : Version) (text : List ℕ) (number n : ℕ)
     : Type 0 where

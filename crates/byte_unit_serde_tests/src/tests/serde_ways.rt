@@ -1,5 +1,5 @@
-//! Tests of sizes that `serde` reads with case ignored, with prefixes by 1024 and in words, from JSON and from TOML, and
-//! of the strings that it stores.
+//! Tests of sizes that `serde` reads with case ignored, with prefixes by 1024 and in words, from JSON and from TOML,
+//! and of the strings that it stores.
 use super::asserting::{assert_error, assert_for, assert_is};
 use byte_unit::Byte;
 use byte_unit_tests::rows;

@@ -95,12 +95,13 @@ fn number_len(text: &[u8]) -> usize {
 /// Returns whether a number that goes on with these bytes has another form.
 fn has_other_form(next: u8, after: u8) -> bool {
     let exponent = after.is_ascii_digit() || after == b'+' || after == b'-';
-    (next.to_ascii_lowercase() == b'e' && exponent) || next == b'^' || next == b'*' || next == b'%'
+    ((next == b'e' || next == b'E') && exponent) || next == b'^' || next == b'*' || next == b'%'
 }
 
 /// Returns whether a text begins with `0x`.
 fn is_hexadecimal(text: &[u8]) -> bool {
-    byte_at(text, 0) == b'0' && byte_at(text, 1).to_ascii_lowercase() == b'x'
+    let next = byte_at(text, 1);
+    byte_at(text, 0) == b'0' && (next == b'x' || next == b'X')
 }
 
 /// Returns whether a text does not begin with a number as the grammar has it.
