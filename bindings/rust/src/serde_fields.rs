@@ -9,7 +9,7 @@ use serde::{Deserialize, Deserializer, Serialize, Serializer};
 use crate::rendered::base::Kind;
 use crate::rendered::format::binary_spec;
 use crate::serde_traits::{Converted, Parsed, convert};
-use crate::{AdjustedBit, AdjustedByte, Bit, Byte, ParseError};
+use crate::{AdjustedBit, AdjustedByte, Bit, Byte, ParseError, ParseSpec};
 
 /// What a field may be that is stored in the way `W`: a size, or a collection of such fields.
 pub trait Field<W>: Sized {
@@ -49,31 +49,53 @@ ways! {
     ///
     /// What is written has a binary unit or none, so that it is the same size in this way and without `with`.
     binary
+    /// Sizes in bytes whose strings may have words for units, with case ignored: `100 megabytes` is 100000000.
+    words
     /// Sizes as integers of 64 bits, of bytes or bits. A size of 2^64 or more is an error when it is written.
     number
     /// Sizes as strings with their units, in binary formats too.
     string
 }
 
-/// A size whose string is read and written by 1024.
-struct ByteBinary(Byte);
+/// Defines a size in bytes whose string is read by another call.
+macro_rules! read_by {
+    ($Size:ident, $text:ident => $parsed:expr, $examples:literal) => {
+        struct $Size(Byte);
 
-impl FromStr for ByteBinary {
-    type Err = ParseError;
+        impl FromStr for $Size {
+            type Err = ParseError;
 
-    fn from_str(text: &str) -> Result<Self, ParseError> {
-        Byte::parse_str_binary(text, true).map(ByteBinary)
+            fn from_str($text: &str) -> Result<Self, ParseError> {
+                $parsed.map(Self)
+            }
+        }
+
+        impl Parsed for $Size {
+            const EXPECTED: &'static str =
+                concat!("a string such as ", $examples, ", or a non-negative integer smaller than 10^30");
+        }
+
+        impl Converted for $Size {
+            fn from_number(number: u128) -> Option<Self> {
+                Byte::from_u128(number).map(Self)
+            }
+        }
+    };
+}
+
+read_by! { ByteBinary, text => Byte::parse_str_binary(text, true), r#""123", "10m", "128MB""# }
+read_by! { ByteInWords, text => Byte::parse_str_as(text, IN_WORDS), r#""123", "5 bytes", "10 MegaBytes""# }
+
+/// How a size that may have words is read.
+const IN_WORDS: ParseSpec = ParseSpec { ignore_case: true, words: true, ..ParseSpec::BYTES };
+
+impl Field<words::Way> for Byte {
+    fn write<S: Serializer>(&self, serializer: S) -> Result<S::Ok, S::Error> {
+        self.serialize(serializer)
     }
-}
 
-impl Parsed for ByteBinary {
-    const EXPECTED: &'static str =
-        r#"a string such as "123", "10m", "128MB", or a non-negative integer smaller than 10^30"#;
-}
-
-impl Converted for ByteBinary {
-    fn from_number(number: u128) -> Option<Self> {
-        Byte::from_u128(number).map(ByteBinary)
+    fn read<'de, D: Deserializer<'de>>(deserializer: D) -> Result<Self, D::Error> {
+        convert::<ByteInWords, D>(deserializer).map(|size| size.0)
     }
 }
 

@@ -3,7 +3,7 @@
 use std::collections::{BTreeMap, HashMap};
 use std::fmt::Debug;
 
-use byte_unit::serde_fields::{Field, binary, number, string};
+use byte_unit::serde_fields::{Field, binary, number, string, words};
 use byte_unit::{Bit, Byte};
 use serde::de::DeserializeOwned;
 use serde::{Deserialize, Serialize};
@@ -12,6 +12,10 @@ use serde_json::{from_str, to_string};
 #[derive(Debug, PartialEq, Serialize, Deserialize)]
 #[serde(transparent, bound = "T: Field<binary::Way>")]
 struct Binary<T>(#[serde(with = "binary")] T);
+
+#[derive(Debug, PartialEq, Serialize, Deserialize)]
+#[serde(transparent, bound = "T: Field<words::Way>")]
+struct InWords<T>(#[serde(with = "words")] T);
 
 #[derive(Debug, PartialEq, Serialize, Deserialize)]
 #[serde(transparent, bound = "T: Field<number::Way>")]
@@ -45,6 +49,9 @@ fn sizes() {
     check(Binary(Byte::from_u64(10 << 20)), r#""10m""#, r#""10 MiB""#);
     check(Binary(Byte::from_u64(512 << 20)), r#""512mb""#, r#""512 MiB""#);
     check(Binary(Byte::KILOBYTE), "1000", r#""1000""#);
+    check(InWords(Byte::from_u64(100_000_000)), r#""100 MegaBytes""#, r#""100 MB""#);
+    check(InWords(Byte::from_u64(9)), r#""9 b""#, r#""9 B""#);
+    check(InWords(SIZE), "1536", r#""1.5 KiB""#);
     check(Number(SIZE), "1536", "1536");
     check(Number(Bit::from_u64(u64::MAX)), "18446744073709551615", "18446744073709551615");
     check(Text(Byte::from_u64(10_000_000)), r#""10m""#, r#""10 MB""#);
@@ -54,11 +61,14 @@ fn sizes() {
         "-1",
         r#"invalid value: integer `-1`, expected a string such as "123", "10m", "128MB", or a"#,
     );
+    rejects::<InWords<Byte>>(r#""5 byte s""#, "the character 'y' is incorrect");
+    rejects::<InWords<Byte>>("[]", r#"invalid type: sequence, expected a string such as "123", "5 bytes", "10 Mega"#);
     rejects::<Number<Byte>>(r#""1536""#, "invalid type: string");
     rejects::<Text<Byte>>("1536", "invalid type: integer `1536`, expected a string such as");
     let large = Number(Byte::from_u128(1 << 64).unwrap());
     assert_eq!(to_string(&large).unwrap_err().to_string(), "the size is 2^64 or more");
-    stored_alike((Binary(Byte::KILOBYTE), Number(SIZE), Text(SIZE)), (1000u128, 1536u64, "1.5 KiB"));
+    stored_alike((Binary(Byte::KILOBYTE), InWords(SIZE)), (1000u128, 1536u128));
+    stored_alike((Number(SIZE), Text(SIZE)), (1536u64, "1.5 KiB"));
 }
 
 #[test]
@@ -75,6 +85,7 @@ fn each_stored_binary_size_is_read() {
 #[test]
 fn collections() {
     check(Binary(Some(SIZE)), r#""1.5k""#, r#""1.5 KiB""#);
+    check(InWords(vec![Some(SIZE)]), r#"["1536 bytes"]"#, r#"["1.5 KiB"]"#);
     check(Number(None::<Byte>), "null", "null");
     check(Binary(vec![SIZE, Byte::KILOBYTE]), r#"["1.5k", 1000]"#, r#"["1.5 KiB","1000"]"#);
     check(Number(BTreeMap::from([(1u8, SIZE), (2, Byte::MIN)])), r#"{"2": 0, "1": 1536}"#, r#"{"1":1536,"2":0}"#);
