@@ -16,7 +16,8 @@ use crate::read::unit::unit_with_prefix;
 use crate::read::{read_number_and_unit, trimmed};
 use crate::spec::Flags;
 use crate::words::{
-    ends_in, is_same, letter_power, name_at, read_ascii_in_words, singular, unit_of_word, word_start,
+    ends_in, is_same, letter_power, name_at, read_ascii_in_words, singular, unit_of_word,
+    word_start,
 };
 use std::fmt;
 
@@ -123,10 +124,7 @@ fn has_other_form(next: u8, after: u8) -> bool
     ensures { result ≡ has_other_form next after }
 {
     let exponent = after.is_ascii_digit() || after == b'+' || after == b'-';
-    ((next == b'e' || next == b'E') && exponent)
-        || next == b'^'
-        || next == b'*'
-        || next == b'%'
+    ((next == b'e' || next == b'E') && exponent) || next == b'^' || next == b'*' || next == b'%'
 }
 
 /// Returns whether a text begins with `0x`.
@@ -188,8 +186,7 @@ fn is_rate(text: &[u8]) -> bool
     ensures { result ≡ is_rate text.now }
 {
     let size = &text[..rated_len(text)];
-    size.len() < text.len()
-        && (is_size(size) || read_ascii_in_words(size, Flags::ANY).is_some())
+    size.len() < text.len() && (is_size(size) || read_ascii_in_words(size, Flags::ANY).is_some())
 }
 
 /// Returns the unit of bytes with the prefix whose name begins with a word of at least three letters.
@@ -260,7 +257,11 @@ impl Hint {
                 "', or read it with the option 'words'",
             ),
             Hint::Unit(unit) => ("write '", unit.as_str(), "'"),
-            Hint::Rate => ("a size has no rate: leave out what it is per second", "", ""),
+            Hint::Rate => (
+                "a size has no rate: leave out what it is per second",
+                "",
+                "",
+            ),
             Hint::Grouped => ("digits are not grouped, and the point is '.'", "", ""),
             Hint::Negative => ("a size is not negative", "", ""),
             Hint::Number => ("a size begins with a number as in '12' or '1.5'", "", ""),

@@ -9,11 +9,11 @@ ghost use Rattle.byte_unit_base.specs.Reading.Machines.{letter_power};
 ghost use Rattle.byte_unit_base.specs.Reading.Words.{names_at, prefix_of_word, ends_in, counted_by_word, singular};
 ghost use Rattle.byte_unit_base.specs.Reading.Words.{unit_of_word, word_start, measure_of_text, words_measure, in_words};
 
+use crate::Unit;
 use crate::read::unit::unit_with_prefix;
 use crate::read::{Measure, read_number_and_unit, trimmed};
 use crate::spec::{Flags, ParseSpec};
 use crate::unit::tables::LETTER_POWERS;
-use crate::Unit;
 use std::str;
 
 /// Parses a number and a unit in words from a string that the grammar rejects, if words are read. White space at its
